@@ -51,6 +51,19 @@ fn shelf_of(alloc: Global, rows: &[Row]) -> Result<Shelf<String, u64>, Fail> {
     }
 }
 
+/// The peer's reply to a message.
+fn reply_of(
+    alloc: Global,
+    peer: &mut Tree,
+    shelf: &Shelf<String, u64>,
+    message: &[u8],
+) -> Result<Vec<u8>, Fail> {
+    match answer_by(alloc, peer, shelf, message, MOST_BYTES) {
+        Ok(reply) => Ok(reply),
+        Err(_) => Err(Fail::new("no reply")),
+    }
+}
+
 /// Rows that a side brings from a peer of which one has a tree and a shelf, and the bytes that the peer said.
 fn brought(
     alloc: Global,
@@ -62,10 +75,7 @@ fn brought(
     let (mut session, mut message) = CatchingUp::begin_of(alloc, tree)?;
     let mut bytes: usize = 0;
     for _ in 0..1000 {
-        let reply = match answer_by(alloc, peer, shelf, &message, MOST_BYTES) {
-            Ok(reply) => reply,
-            Err(_) => return Err(Fail::new("no reply")),
-        };
+        let reply = reply_of(alloc, peer, shelf, &message)?;
         bytes = bytes.saturating_add(reply.len());
         match session.take_by(tree, count, &reply)? {
             Next::Ask(next, question) => {
@@ -119,7 +129,7 @@ fn a_closed_shelf_says_so(rt: HostRuntime) -> Result<(), Fail> {
     let local = tree_of(alloc, &[])?;
     let (_, message) = CatchingUp::<String, u64>::begin_of(alloc, &local)?;
     match answer_by(alloc, &mut peer, &shelf, &message, MOST_BYTES) {
-        Err(KeptError::Rows(ShelfError::Closed)) => Ok(()),
+        Err(KeptError::Kept(ShelfError::Closed)) => Ok(()),
         _ => Err(Fail::new("not closed")),
     }
 }
@@ -132,15 +142,11 @@ fn a_row_is_brought_by_a_tree_that_is_far(rt: HostRuntime) -> Result<(), Fail> {
     let shelf = shelf_of(alloc, &all)?;
     let mut local = FarTree::of(tree_of(alloc, &[])?);
     let (session, message) = CatchingUp::<String, u64>::begin_by(alloc, &mut local)?;
-    let Ok(reply) = answer_by(alloc, &mut peer, &shelf, &message, MOST_BYTES) else {
-        return Err(Fail::new("no reply"));
-    };
+    let reply = reply_of(alloc, &mut peer, &shelf, &message)?;
     let Next::Ask(session, message) = session.take_by(&mut local, 0, &reply)? else {
         return Err(Fail::new("no question"));
     };
-    let Ok(reply) = answer_by(alloc, &mut peer, &shelf, &message, MOST_BYTES) else {
-        return Err(Fail::new("no reply"));
-    };
+    let reply = reply_of(alloc, &mut peer, &shelf, &message)?;
     let Next::Came(rows) = session.take_by(&mut local, 0, &reply)? else {
         return Err(Fail::new("no rows"));
     };
@@ -156,9 +162,7 @@ fn a_tree_out_of_reach_says_so(rt: HostRuntime) -> Result<(), Fail> {
     let shelf = shelf_of(alloc, &all)?;
     let mut local = FarTree::of(tree_of(alloc, &[])?);
     let (session, message) = CatchingUp::<String, u64>::begin_by(alloc, &mut local)?;
-    let Ok(reply) = answer_by(alloc, &mut peer, &shelf, &message, MOST_BYTES) else {
-        return Err(Fail::new("no reply"));
-    };
+    let reply = reply_of(alloc, &mut peer, &shelf, &message)?;
     local.move_away();
     match session.take_by(&mut local, 0, &reply) {
         Err(TakeError::Tree(FarError::Away)) => {}
@@ -166,6 +170,26 @@ fn a_tree_out_of_reach_says_so(rt: HostRuntime) -> Result<(), Fail> {
     }
     match CatchingUp::<String, u64>::begin_by(alloc, &mut local) {
         Err(FarError::Away) => Ok(()),
+        _ => Err(Fail::new("not away")),
+    }
+}
+
+#[test]
+fn a_side_with_a_tree_that_is_far_answers_within_reach_alone(rt: HostRuntime) -> Result<(), Fail> {
+    let alloc = rt.alloc();
+    let all = numbers(alloc, 50, 50)?;
+    let shelf = shelf_of(alloc, &all)?;
+    let mut near = tree_of(alloc, &all)?;
+    let mut far = FarTree::of(tree_of(alloc, &all)?);
+    let local = tree_of(alloc, &[])?;
+    let (_, message) = CatchingUp::<String, u64>::begin_of(alloc, &local)?;
+    match answer_by(alloc, &mut far, &shelf, &message, MOST_BYTES) {
+        Ok(reply) => assert_eq!(rt; reply, reply_of(alloc, &mut near, &shelf, &message)?),
+        Err(_) => return Err(Fail::new("no reply")),
+    }
+    far.move_away();
+    match answer_by(alloc, &mut far, &shelf, &message, MOST_BYTES) {
+        Err(KeptError::Kept(FarError::Away)) => Ok(()),
         _ => Err(Fail::new("not away")),
     }
 }

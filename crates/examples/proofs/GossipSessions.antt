@@ -65,7 +65,8 @@ module _ {K V H : Type 0} (laws : Laws K V H) where
   }
 
   -- while digests are faithful, sessions are catch-ups
-  module _ (o : IsTotalOrder laws.cmp) (eqv : IsEquivalence laws.eq) (joining : IsJoining laws.eq laws.join) (respects : (h : H) (a b : V) → laws.eq a b ≡ true → laws.value_digest h a ≡ laws.value_digest h b) where
+  module _ (o : IsTotalOrder laws.cmp) (eqv : IsEquivalence laws.eq) (joining : IsJoining laws.eq laws.join)
+      (respects : (h : H) (a b : V) → laws.eq a b ≡ true → laws.value_digest h a ≡ laws.value_digest h b) where
     pub are_gossip : (steps : List (ℕ × ℕ)) (first last : ℕ → Side K V H) (met : Met) → ((n : ℕ) → IsMap laws.cmp (first n).rows) → AreSessions laws steps first last met → AllFaithfulSessions laws met
         → IsGossip laws steps first last met × AllFaithful laws met
     are_gossip [] first last met up made faithful = (made, subst (AllFaithful laws) (sym made.1) tt)
@@ -80,7 +81,8 @@ module _ {K V H : Type 0} (laws : Laws K V H) where
         by true x y p q = p
         by false x y p q = q
 
-module _ {K V H : Type 0} (laws : Laws K V H) (first : Contents K V H) (all : List (Contents K V H)) (hub hub' : Contents K V H) (xs : List (Contents K V H)) (i : ℕ) (d x' : Contents K V H) (low : i < length xs) where
+module _ {K V H : Type 0} (laws : Laws K V H) (first : Contents K V H) (all : List (Contents K V H)) (hub hub' : Contents K V H) (xs : List (Contents K V H)) (i : ℕ)
+    (d x' : Contents K V H) (low : i < length xs) where
   -- the other at a place
   abbrev other : Contents K V H
   other = get_or xs i d
@@ -100,7 +102,8 @@ module _ {K V H : Type 0} (laws : Laws K V H) (first : Contents K V H) (all : Li
     pub gathers : (joined : ℕ) → HasJoined laws (side hub) (side other) joined hub'.rows → AreMade laws first all hub xs (gathering i) → AreMade laws first all hub' (set xs i x') (gathering (i + 1))
     gathers joined has made beyond =
         let (met, before) = made beyond in
-        subst (λ n. (later : List (Side K V H × Side K V H)) × AreSessions laws (gathering n) (numbered beyond (sides_of first all)) (numbered beyond (sides_of hub' (set xs i x'))) later) (sym (add-one i))
+        subst (λ n. (later : List (Side K V H × Side K V H)) × AreSessions laws (gathering n) (numbered beyond (sides_of first all))
+        (numbered beyond (sides_of hub' (set xs i x'))) later) (sym (add-one i))
         (sessions-more laws (gathering i) (0, suc i) (numbered beyond (sides_of first all)) (numbered beyond (sides_of hub xs)) (numbered beyond (sides_of hub' (set xs i x')))
         met (side hub) (side other) joined hub'.rows before refl (there beyond) has (hub_changed beyond))
 
@@ -120,7 +123,8 @@ module _ {K V H : Type 0} (laws : Laws K V H) (first : Contents K V H) (all : Li
     pub spreads : (joined : ℕ) → HasJoined laws (side other) (side hub) joined x'.rows → AreMade laws first all hub xs (spreading i) → AreMade laws first all hub' (set xs i x') (spreading (i + 1))
     spreads joined has made beyond =
         let (met, before) = made beyond in
-        subst (λ n. (later : List (Side K V H × Side K V H)) × AreSessions laws (spreading n) (numbered beyond (sides_of first all)) (numbered beyond (sides_of hub' (set xs i x'))) later) (sym (add-one i))
+        subst (λ n. (later : List (Side K V H × Side K V H)) × AreSessions laws (spreading n) (numbered beyond (sides_of first all))
+        (numbered beyond (sides_of hub' (set xs i x'))) later) (sym (add-one i))
         (sessions-more laws (spreading i) (suc i, 0) (numbered beyond (sides_of first all)) (numbered beyond (sides_of hub xs)) (numbered beyond (sides_of hub' (set xs i x')))
         met (side other) (side hub) joined x'.rows before (there beyond) refl has (other_changed beyond))
 

@@ -29,7 +29,8 @@ if_ok_both (Err e) P Q R f h k = tt
 module _ {K V H : Type 0} (laws : Laws K V H) where
   -- a premise from which the first one follows does as well, and so does what follows from the outcome
   pub sync_like : (P Q : Side K V H → Side K V H → Type 0) (R S : Type 0) (a b a' b' : Contents K V H)
-      → ((answers : List (Answer K)) (met : List (Side K V H × Side K V H)) → IsByTurns laws answers (side a) (side b) a'.rows b'.rows met → AllByRecursion (λ m. Q m.0 m.1) met → AllByRecursion (λ m. P m.0 m.1) met)
+      → ((answers : List (Answer K)) (met : List (Side K V H × Side K V H)) → IsByTurns laws answers (side a) (side b) a'.rows b'.rows met
+      → AllByRecursion (λ m. Q m.0 m.1) met → AllByRecursion (λ m. P m.0 m.1) met)
       → (R → S) → IsSync laws P R a b a' b' → IsSync laws Q S a b a' b'
   sync_like P Q R S a b a' b' f g h = record {
     answers = h.answers;

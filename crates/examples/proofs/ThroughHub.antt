@@ -113,7 +113,8 @@ module _ {K V H : Type 0} (laws : Laws K V H) where
   Holds = IsJoinOf laws.cmp laws.eq laws.join
 
   -- where the order in which maps are joined doesn't matter, each of those through a hub holds the join of all
-  pub all_hold : ((ms ns : List (List (K × V))) (rows : List (K × V)) → AllByRecursion (λ m. AnyByRecursion (λ n. n ≡ m) ns) ms → AllByRecursion (λ n. AnyByRecursion (λ m. m ≡ n) ms) ns → Holds ms rows → Holds ns rows)
+  pub all_hold : ((ms ns : List (List (K × V))) (rows : List (K × V)) → AllByRecursion (λ m. AnyByRecursion (λ n. n ≡ m) ns) ms
+      → AllByRecursion (λ n. AnyByRecursion (λ m. m ≡ n) ms) ns → Holds ms rows → Holds ns rows)
       → (hub : Side K V H) (others after : List (Side K V H)) (count : ℕ) → count ≡ length others → length after ≡ suc count
       → ((n : ℕ) → Holds (map (λ m. (numbered hub (hub ∷ others) m).rows) (heard (through_hub count) n)) (numbered hub after n).rows)
       → AllByRecursion (λ s. Holds (rows_of (hub ∷ others)) s.rows) after

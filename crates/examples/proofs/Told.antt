@@ -122,4 +122,5 @@ rows_asked_for peer found spans got asked sent asks read spelled came =
 pub first_joined : (local asked_for got after : List (Text × ℕ)) (done : ℕ) → SameMap text_order (λ x y. nat_eq x y ≡ true) asked_for got
     → IsJoin text_order nat_eq max local (take done got) after → IsJoin text_order nat_eq max local (take done asked_for) after
 first_joined local asked_for got after done same =
-    joins-came text_order string_cmp_total nat_eq nat_eq_equiv max max_joining local (take done asked_for) (take done got) after (take_same text_order string_cmp_total (λ x y. nat_eq x y ≡ true) done asked_for got same)
+    joins-came text_order string_cmp_total nat_eq nat_eq_equiv max max_joining local (take done asked_for) (take done got) after
+    (take_same text_order string_cmp_total (λ x y. nat_eq x y ≡ true) done asked_for got same)

@@ -1,13 +1,15 @@
-//! A tree of digests that may be out of reach.
+//! A tree of digests that may be out of reach, beside rows on a shelf.
 ghost use Rattle.std.specs.Prelude.{◌≡◌, None};
 ghost use Rattle.merkle_wire.specs.ItsRows.{digests_of};
 
+use crate::shelf::{Shelf, ShelfError};
+use merkle_bytes::Encode;
 use merkle_digest::{Digest, Hasher, Key, KeyBytes, PageDigest, ValueDigest};
 use merkle_replica::{Join, RowHasher};
 use merkle_search_tree::builder::PageFormat;
 use merkle_search_tree::{Gap, MerkleSearchTree};
-use merkle_wire::KeptTree;
-use std::alloc::AllocError;
+use merkle_wire::{KeptSide, KeptTree, OwnedGap, Settings, Telling};
+use std::alloc::{AllocError, Global};
 use std::marker::Model;
 use std::num::NonZeroU8;
 
@@ -37,18 +39,26 @@ impl<K: Ord + KeyBytes, V, H: Hasher<N, K>, const N: usize> Model for FarTree<K,
     ghost view = { λ far. far.tree };
 }
 
-/// Why a tree can't be read.
+/// Why a tree can't be read, or the rows beside it.
 #[derive(Clone, Copy, Debug, PartialEq, Eq, Drop)]
 pub enum FarError {
     /// Out of memory.
     Memory,
     /// The tree is out of reach.
     Away,
+    /// The rows can't be told.
+    Rows(ShelfError),
 }
 
 impl From<AllocError> for FarError {
     fn from(_error: AllocError) -> Self {
         FarError::Memory
+    }
+}
+
+impl From<ShelfError> for FarError {
+    fn from(error: ShelfError) -> Self {
+        FarError::Rows(error)
     }
 }
 
@@ -112,5 +122,74 @@ impl<const N: usize, K: Key + Drop, V: Join + Drop, H: RowHasher<N, K, V>> KeptT
             return Err(FarError::Away);
         }
         Ok(self.tree.is_page(gap, digest)?)
+    }
+}
+
+/// It answers as the tree does, where that is within reach.
+impl<
+    const N: usize,
+    K: Key + Encode + Drop,
+    V: Join + Encode + Drop,
+    H: RowHasher<N, K, V>,
+> KeptSide<N, K, V, H, Shelf<K, V>> for FarTree<K, V, H, N> {
+    type Error = FarError;
+
+    ghost contents = { λ far shelf. record { rows = shelf; tree = far } };
+
+    fn has_settings(&self, shelf: &Shelf<K, V>, settings: &Settings<K>) -> bool {
+        self.tree.has_settings(shelf, settings)
+    }
+
+    fn hash(&mut self, shelf: &Shelf<K, V>) -> Result<(), FarError> {
+        if !self.is_near {
+            return Err(FarError::Away);
+        }
+        Ok(self.tree.hash(shelf)?)
+    }
+
+    fn count(&mut self, shelf: &Shelf<K, V>) -> Result<u64, FarError> {
+        Ok(self.tree.count(shelf)?)
+    }
+
+    fn root_digest(&mut self, shelf: &Shelf<K, V>) -> Result<Option<PageDigest>, FarError> {
+        if !self.is_near {
+            return Err(FarError::Away);
+        }
+        Ok(self.tree.root_digest(shelf)?)
+    }
+
+    fn tell_page(
+        &mut self,
+        alloc: Global,
+        shelf: &Shelf<K, V>,
+        telling: Telling,
+        gap: &OwnedGap<K>,
+        bytes: &mut Vec<u8>,
+    ) -> Result<(), FarError> {
+        if !self.is_near {
+            return Err(FarError::Away);
+        }
+        self.tree.tell_page(alloc, shelf, telling, gap, bytes)?;
+        Ok(())
+    }
+
+    fn add_value(
+        &mut self,
+        shelf: &Shelf<K, V>,
+        key: &K,
+        bytes: &mut Vec<u8>,
+    ) -> Result<bool, FarError> {
+        Ok(self.tree.add_value(shelf, key, bytes)?)
+    }
+
+    fn add_part(
+        &mut self,
+        shelf: &Shelf<K, V>,
+        most_bytes: usize,
+        gap: &OwnedGap<K>,
+        bytes: &mut Vec<u8>,
+    ) -> Result<(), FarError> {
+        self.tree.add_part(shelf, most_bytes, gap, bytes)?;
+        Ok(())
     }
 }

@@ -81,7 +81,8 @@ module _ {K : Type 0} (cmp : K → K → Ordering) (o : IsTotalOrder cmp) where
           (none_same (pairs t) m h.1 (sym (ap pairs e) ∙ q), ap (page_digest format bytes_of) e ∙ own.digest t h)
 
       -- a page with pairs has an entry, of which holds what holds of each, and its pairs are those of the map within it
-      with_pairs : (P : Entry K (List ℕ) → Type 0) → AllByRecursion P (ranges_of format bytes_of root) → (s : Tree K (List ℕ)) (p : K × List ℕ) (ps : List (K × List ℕ)) → IsPageOf cmp digest_of base s m → pairs s ≡ p ∷ ps
+      with_pairs : (P : Entry K (List ℕ) → Type 0) → AllByRecursion P (ranges_of format bytes_of root) → (s : Tree K (List ℕ)) (p : K × List ℕ) (ps : List (K × List ℕ))
+          → IsPageOf cmp digest_of base s m → pairs s ≡ p ∷ ps
           → (e : Entry K (List ℕ)) × (page_digest format bytes_of s ≡ e.digest) × SameMap cmp (λ x y. x ≡ y) (pairs s) (entry_rows cmp e m) × P e
       with_pairs P all s p ps (t, h, i) q =
           let (e, same, holds) = of_page format bytes_of (IsLike P) s t p ps i q (likes P (ranges_of format bytes_of t) (ranges_of format bytes_of root) (own.ranges t h) all) in
@@ -99,12 +100,15 @@ module _ {K : Type 0} (cmp : K → K → Ordering) (o : IsTotalOrder cmp) where
           by : (es : List (Entry K (List ℕ))) → IsListing cmp (IsPageOf cmp digest_of base) (page_digest format bytes_of) pairs m es → HasNoPage d es
           by [] l = tt
           by (e ∷ es) l =
-              each-with (λ f. (s : Tree K (List ℕ)) × IsPageOf cmp digest_of base s m × (page_digest format bytes_of s ≡ f.digest) × SameMap cmp (λ x y. x ≡ y) (pairs s) (entry_rows cmp f m)) (λ f. d ≡ f.digest → ⊥) (e ∷ es)
+              each-with (λ f. (s : Tree K (List ℕ)) × IsPageOf cmp digest_of base s m × (page_digest format bytes_of s ≡ f.digest)
+              × SameMap cmp (λ x y. x ≡ y) (pairs s) (entry_rows cmp f m)) (λ f. d ≡ f.digest → ⊥) (e ∷ es)
               (λ f (s, of_m, is, same_map) same. subst (λ n. IsWhole cmp n (e ∷ es)) (without_pairs s of_m (none s of_m (same ∙ sym is))).0 l.whole) l.pages
 
   -- the tree of a map is such a one, where trees of equal maps have equal page ranges and equal digests
-  pub its_tree : {H : Type 0} (digest_of : H → K → List ℕ) (bytes_of : K → List ℕ) → TreesOfEqualMapsInAnyFormat cmp digest_of (λ format. SameDigest format bytes_of) → TreesOfEqualMapsInAnyFormat cmp digest_of (λ format. SameRanges cmp format bytes_of)
-      → (hasher : H) (base : ℕ) (format : PageFormat) (m : List (K × List ℕ)) (root : Tree K (List ℕ)) → IsMap cmp m → IsTreeOf cmp (digest_of hasher) base root m → IsItsTree (digest_of hasher) base format bytes_of m root
+  pub its_tree : {H : Type 0} (digest_of : H → K → List ℕ) (bytes_of : K → List ℕ) → TreesOfEqualMapsInAnyFormat cmp digest_of (λ format. SameDigest format bytes_of)
+      → TreesOfEqualMapsInAnyFormat cmp digest_of (λ format. SameRanges cmp format bytes_of)
+      → (hasher : H) (base : ℕ) (format : PageFormat) (m : List (K × List ℕ)) (root : Tree K (List ℕ)) → IsMap cmp m → IsTreeOf cmp (digest_of hasher) base root m
+      → IsItsTree (digest_of hasher) base format bytes_of m root
   its_tree digest_of bytes_of digests ranges hasher base format m root a h = record {
     ascending = a;
     of_map = h;
@@ -112,13 +116,15 @@ module _ {K : Type 0} (cmp : K → K → Ordering) (o : IsTotalOrder cmp) where
     digest = λ t g. digests hasher base format m m t root (same_map-own cmp o m) g h;
   }
 
-  module _ (da db : K → List ℕ) (base_a base_b : ℕ) (fa fb : PageFormat) (bytes_of : K → List ℕ) (a b : List (K × List ℕ)) (t u : Tree K (List ℕ)) (own_a : IsItsTree da base_a fa bytes_of a t) (own_b : IsItsTree db base_b fb bytes_of b u) where
+  module _ (da db : K → List ℕ) (base_a base_b : ℕ) (fa fb : PageFormat) (bytes_of : K → List ℕ) (a b : List (K × List ℕ)) (t u : Tree K (List ℕ))
+      (own_a : IsItsTree da base_a fa bytes_of a t) (own_b : IsItsTree db base_b fb bytes_of b u) where
     -- pages of the two maps with equal digests have equal maps below them
     abbrev pub AreFaithful : Type 0
     AreFaithful = HasFaithfulPages cmp (IsPageOf cmp da base_a) (IsPageOf cmp db base_b) (page_digest fa bytes_of) (page_digest fb bytes_of) pairs a b
 
     -- so they have where the page ranges tell maps, and no page of one side has the digest of the other's empty page
-    pub told_pages : AllMapsTold cmp a b (ranges_of fa bytes_of t) (ranges_of fb bytes_of u) → (a ≡ [] → HasNoPage (page_digest fa bytes_of t) (ranges_of fb bytes_of u)) → (b ≡ [] → HasNoPage (page_digest fb bytes_of u) (ranges_of fa bytes_of t)) → AreFaithful
+    pub told_pages : AllMapsTold cmp a b (ranges_of fa bytes_of t) (ranges_of fb bytes_of u) → (a ≡ [] → HasNoPage (page_digest fa bytes_of t) (ranges_of fb bytes_of u))
+        → (b ≡ [] → HasNoPage (page_digest fb bytes_of u) (ranges_of fa bytes_of t)) → AreFaithful
     told_pages tell no_a no_b s v of_a of_b same = go (pairs s) refl (pairs v) refl
       where
         go : (xs : List (K × List ℕ)) → pairs s ≡ xs → (ys : List (K × List ℕ)) → pairs v ≡ ys → SameMap cmp (λ d c. d ≡ c) xs ys
@@ -143,10 +149,13 @@ module _ {K : Type 0} (cmp : K → K → Ordering) (o : IsTotalOrder cmp) where
       -- and only there
       pub pages_tell : AllMapsTold cmp a b (ranges_of fa bytes_of t) (ranges_of fb bytes_of u)
       pages_tell =
-          each-with (λ e. (s : Tree K (List ℕ)) × IsPageOf cmp da base_a s a × (page_digest fa bytes_of s ≡ e.digest) × SameMap cmp (λ x y. x ≡ y) (pairs s) (entry_rows cmp e a)) (EachMapTold cmp a b (ranges_of fb bytes_of u)) (ranges_of fa bytes_of t)
+          each-with (λ e. (s : Tree K (List ℕ)) × IsPageOf cmp da base_a s a × (page_digest fa bytes_of s ≡ e.digest)
+          × SameMap cmp (λ x y. x ≡ y) (pairs s) (entry_rows cmp e a)) (EachMapTold cmp a b (ranges_of fb bytes_of u)) (ranges_of fa bytes_of t)
           (λ e (s, of_a, dx, m).
-          each-with (λ f. (v : Tree K (List ℕ)) × IsPageOf cmp db base_b v b × (page_digest fb bytes_of v ≡ f.digest) × SameMap cmp (λ x y. x ≡ y) (pairs v) (entry_rows cmp f b)) (MapTold cmp a b e) (ranges_of fb bytes_of u)
-          (λ f (v, of_b, dy, n) same. same_across cmp o (pairs s) (pairs v) (entry_rows cmp e a) (entry_rows cmp f b) m n (faithful s v of_a of_b (dx ∙ same ∙ sym dy))) (listing db base_b fb bytes_of b u own_b).pages) (listing da base_a fa bytes_of a t own_a).pages
+          each-with (λ f. (v : Tree K (List ℕ)) × IsPageOf cmp db base_b v b × (page_digest fb bytes_of v ≡ f.digest)
+          × SameMap cmp (λ x y. x ≡ y) (pairs v) (entry_rows cmp f b)) (MapTold cmp a b e) (ranges_of fb bytes_of u)
+          (λ f (v, of_b, dy, n) same. same_across cmp o (pairs s) (pairs v) (entry_rows cmp e a) (entry_rows cmp f b) m n (faithful s v of_a of_b (dx ∙ same ∙ sym dy)))
+          (listing db base_b fb bytes_of b u own_b).pages) (listing da base_a fa bytes_of a t own_a).pages
 
       pub first_alone : a ≡ [] → HasNoPage (page_digest fa bytes_of t) (ranges_of fb bytes_of u)
       first_alone none =

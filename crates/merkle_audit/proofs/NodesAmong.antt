@@ -20,11 +20,13 @@ gaps_among-append (of_node k d ∷ xs) ys = gaps_among-append xs ys
 gaps_among-append (of_page g d ∷ xs) ys = ap (λ gs. g ∷ gs) (gaps_among-append xs ys)
 
 -- the gaps among one item more
-pub gaps_more : {K X : Type 0} (f : X → Item K (List ℕ)) (xs : List X) (i : ℕ) (x : X) → i < length xs → x ≡ get_or xs i x → gaps_among (map f (take (i + 1) xs)) ≡ gaps_among (map f (take i xs)) ++ gaps_among (f x ∷ [])
+pub gaps_more : {K X : Type 0} (f : X → Item K (List ℕ)) (xs : List X) (i : ℕ) (x : X) → i < length xs → x ≡ get_or xs i x
+    → gaps_among (map f (take (i + 1) xs)) ≡ gaps_among (map f (take i xs)) ++ gaps_among (f x ∷ [])
 gaps_more f xs i x low is = ap gaps_among (map_more f xs i x low is) ∙ gaps_among-append (map f (take i xs)) (f x ∷ [])
 
 -- and the nodes
-pub nodes_more : {K X : Type 0} (f : X → Item K (List ℕ)) (xs : List X) (i : ℕ) (x : X) → i < length xs → x ≡ get_or xs i x → nodes_among (map f (take (i + 1) xs)) ≡ nodes_among (map f (take i xs)) ++ nodes_among (f x ∷ [])
+pub nodes_more : {K X : Type 0} (f : X → Item K (List ℕ)) (xs : List X) (i : ℕ) (x : X) → i < length xs → x ≡ get_or xs i x
+    → nodes_among (map f (take (i + 1) xs)) ≡ nodes_among (map f (take i xs)) ++ nodes_among (f x ∷ [])
 nodes_more f xs i x low is = ap nodes_among (map_more f xs i x low is) ∙ nodes_among-append (map f (take i xs)) (f x ∷ [])
 
 -- the nodes before one, itself and those after it
@@ -38,7 +40,8 @@ node_at f xs i x k d low is node =
     ∙ nodes_among-append first (of_node k d ∷ rest)
 
 -- one digest more, of a node more
-pub digests_more : {K : Type 0} (at : K → Option (List ℕ)) (nodes all : List (K × List ℕ)) (k : K) (d : List ℕ) (ds : List (List ℕ)) (own : List ℕ) → all ≡ nodes ++ (k, d) ∷ [] → map at (keys_among nodes) ≡ map Some ds
+pub digests_more : {K : Type 0} (at : K → Option (List ℕ)) (nodes all : List (K × List ℕ)) (k : K) (d : List ℕ) (ds : List (List ℕ)) (own : List ℕ)
+    → all ≡ nodes ++ (k, d) ∷ [] → map at (keys_among nodes) ≡ map Some ds
     → at k ≡ Some own → map at (keys_among all) ≡ map Some (ds ++ own ∷ [])
 digests_more at nodes all k d ds own is had here =
     ap (λ ns. map at (keys_among ns)) is ∙ ap (map at) (map-append (λ n. n.0) nodes ((k, d) ∷ [])) ∙ map-append at (keys_among nodes) (k ∷ [])

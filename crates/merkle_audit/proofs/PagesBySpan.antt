@@ -50,7 +50,8 @@ entry_at p ps d = record { first = p.0; last = last_key p.0 ps; digest = d }
 
 module _ {K : Type 0} (cmp : K → K → Ordering) (o : IsTotalOrder cmp) where
   -- the pairs of the tree in the span of a page are those of the page
-  pub span_pairs : (s t : Tree K (List ℕ)) (p : K × List ℕ) (ps : List (K × List ℕ)) (d : List ℕ) → IsPageIn s t → IsMap cmp (pairs t) → pairs s ≡ p ∷ ps → entry_rows cmp (entry_at p ps d) (pairs t) ≡ pairs s
+  pub span_pairs : (s t : Tree K (List ℕ)) (p : K × List ℕ) (ps : List (K × List ℕ)) (d : List ℕ) → IsPageIn s t → IsMap cmp (pairs t) → pairs s ≡ p ∷ ps
+      → entry_rows cmp (entry_at p ps d) (pairs t) ≡ pairs s
   span_pairs s t p ps d i m e =
       let (pre, post, f) = page_stretch s t i in
       let g : pairs t ≡ pre ++ ((p ∷ ps) ++ post) = f ∙ ap (λ w. pre ++ (w ++ post)) e in
@@ -59,19 +60,24 @@ module _ {K : Type 0} (cmp : K → K → Ordering) (o : IsTotalOrder cmp) where
 module _ {K : Type 0} (format : PageFormat) (bytes_of : K → List ℕ) (P : Entry K (List ℕ) → Type 0) where
   mutual
     -- what holds of each of the page ranges of a tree holds of the entry of each of its pages that has a pair
-    pub of_page : (s t : Tree K (List ℕ)) (p : K × List ℕ) (ps : List (K × List ℕ)) → IsPageIn s t → pairs s ≡ p ∷ ps → AllByRecursion P (ranges_of format bytes_of t) → P (entry_at p ps (page_digest format bytes_of s))
+    pub of_page : (s t : Tree K (List ℕ)) (p : K × List ℕ) (ps : List (K × List ℕ)) → IsPageIn s t → pairs s ≡ p ∷ ps → AllByRecursion P (ranges_of format bytes_of t)
+        → P (entry_at p ps (page_digest format bytes_of s))
     of_page s (page l c r) p ps (inl e) q all =
-        let own : AllByRecursion P (entry_of (row_pairs r) (page_digest format bytes_of (page l c r))) = each-before P (entry_of (row_pairs r) (page_digest format bytes_of (page l c r))) (row_ranges format bytes_of r) all in
-        (subst (λ xs. AllByRecursion P (entry_of xs (page_digest format bytes_of s))) q (subst (λ (u : Tree K (List ℕ)). AllByRecursion P (entry_of (pairs u) (page_digest format bytes_of u))) (sym e) own)).0
+        let own : AllByRecursion P (entry_of (row_pairs r) (page_digest format bytes_of (page l c r))) =
+        each-before P (entry_of (row_pairs r) (page_digest format bytes_of (page l c r))) (row_ranges format bytes_of r) all in
+        (subst (λ xs. AllByRecursion P (entry_of xs (page_digest format bytes_of s))) q
+        (subst (λ (u : Tree K (List ℕ)). AllByRecursion P (entry_of (pairs u) (page_digest format bytes_of u))) (sym e) own)).0
     of_page s (page l c r) p ps (inr i) q all =
         of_page_in_row s r p ps i q (each-behind P (entry_of (row_pairs r) (page_digest format bytes_of (page l c r))) (row_ranges format bytes_of r) all)
 
-    of_page_in_row : (s : Tree K (List ℕ)) (r : Row K (List ℕ)) (p : K × List ℕ) (ps : List (K × List ℕ)) → IsPageInRow s r → pairs s ≡ p ∷ ps → AllByRecursion P (row_ranges format bytes_of r) → P (entry_at p ps (page_digest format bytes_of s))
+    of_page_in_row : (s : Tree K (List ℕ)) (r : Row K (List ℕ)) (p : K × List ℕ) (ps : List (K × List ℕ)) → IsPageInRow s r → pairs s ≡ p ∷ ps
+        → AllByRecursion P (row_ranges format bytes_of r) → P (entry_at p ps (page_digest format bytes_of s))
     of_page_in_row s (high h) p ps i q all = of_page_in_held s h p ps i q all
     of_page_in_row s (node h k d r) p ps (inl i) q all = of_page_in_held s h p ps i q (each-before P (held_ranges format bytes_of h) (row_ranges format bytes_of r) all)
     of_page_in_row s (node h k d r) p ps (inr i) q all = of_page_in_row s r p ps i q (each-behind P (held_ranges format bytes_of h) (row_ranges format bytes_of r) all)
 
-    of_page_in_held : (s : Tree K (List ℕ)) (h : Held K (List ℕ)) (p : K × List ℕ) (ps : List (K × List ℕ)) → IsPageInHeld s h → pairs s ≡ p ∷ ps → AllByRecursion P (held_ranges format bytes_of h) → P (entry_at p ps (page_digest format bytes_of s))
+    of_page_in_held : (s : Tree K (List ℕ)) (h : Held K (List ℕ)) (p : K × List ℕ) (ps : List (K × List ℕ)) → IsPageInHeld s h → pairs s ≡ p ∷ ps
+        → AllByRecursion P (held_ranges format bytes_of h) → P (entry_at p ps (page_digest format bytes_of s))
     of_page_in_held s nothing p ps i q all = absurd i
     of_page_in_held s (below t) p ps i q all = of_page s t p ps i q all
 

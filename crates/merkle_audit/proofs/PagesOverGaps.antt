@@ -66,19 +66,23 @@ module _ {K V H : Type 0} (laws : Laws K V H) (local : Side K V H) (tree : State
     AllIn = AreAll laws.cmp o tree.format laws.bytes_of tree.root up
 
     -- a page right below a row that has all keys of a gap fills a part of the gap
-    held_covered : (s : Tree K (List ℕ)) (g : Gap K) (l : ℕ) (h : Held K (List ℕ)) → IsGap lev l h → AllIn g (held_pairs h) → ((t : Tree K (List ℕ)) → IsPageInHeld t h → IsPageIn t tree.root) → IsPageInHeld s h
+    held_covered : (s : Tree K (List ℕ)) (g : Gap K) (l : ℕ) (h : Held K (List ℕ)) → IsGap lev l h → AllIn g (held_pairs h)
+        → ((t : Tree K (List ℕ)) → IsPageInHeld t h → IsPageIn t tree.root) → IsPageInHeld s h
         → AnyByRecursion (IsOver s) (gaps_among (held_items (λ t. Some (page_digest tree.format laws.bytes_of t)) g h))
     held_covered s g l nothing c all inside i = absurd i
     held_covered s g l (below t) c all inside i = inl (t, record { inside = inside t (itself t); some = c.1; all = all }, i)
 
-    row_covered : (s : Tree K (List ℕ)) (g : Gap K) (l : ℕ) (r : Row K (List ℕ)) → IsRow lev l r → AllIn g (row_pairs r) → IsMap laws.cmp (row_pairs r) → ((t : Tree K (List ℕ)) → IsPageInRow t r → IsPageIn t tree.root) → IsPageInRow s r
+    row_covered : (s : Tree K (List ℕ)) (g : Gap K) (l : ℕ) (r : Row K (List ℕ)) → IsRow lev l r → AllIn g (row_pairs r) → IsMap laws.cmp (row_pairs r)
+        → ((t : Tree K (List ℕ)) → IsPageInRow t r → IsPageIn t tree.root) → IsPageInRow s r
         → AnyByRecursion (IsOver s) (gaps_among (items_in laws.cmp o tree.format laws.bytes_of g r))
     row_covered s g l (high h) c all m inside i = held_covered s g l h c all inside i
     row_covered s g l (node h k d r) c all m inside i =
         by h i (held_covered s (part_before g k) l h c.0 (held_all laws.cmp o tree.format laws.bytes_of tree.root up g h k d r all m) (λ t j. inside t (inl j)))
-        (row_covered s (part_behind g k) l r c.2 (rest_all laws.cmp o tree.format laws.bytes_of tree.root up g h k d r all m) (map-rest laws.cmp (held_pairs h) ((k, d) ∷ row_pairs r) m).1 (λ t j. inside t (inr j)))
+        (row_covered s (part_behind g k) l r c.2 (rest_all laws.cmp o tree.format laws.bytes_of tree.root up g h k d r all m)
+        (map-rest laws.cmp (held_pairs h) ((k, d) ∷ row_pairs r) m).1 (λ t j. inside t (inr j)))
       where
-        by : (h : Held K (List ℕ)) → IsPageInRow s (node h k d r) → (IsPageInHeld s h → AnyByRecursion (IsOver s) (gaps_among (held_items (λ t. Some (page_digest tree.format laws.bytes_of t)) (part_before g k) h)))
+        by : (h : Held K (List ℕ)) → IsPageInRow s (node h k d r)
+            → (IsPageInHeld s h → AnyByRecursion (IsOver s) (gaps_among (held_items (λ t. Some (page_digest tree.format laws.bytes_of t)) (part_before g k) h)))
             → (IsPageInRow s r → AnyByRecursion (IsOver s) (gaps_among (items_in laws.cmp o tree.format laws.bytes_of (part_behind g k) r)))
             → AnyByRecursion (IsOver s) (gaps_among (items_in laws.cmp o tree.format laws.bytes_of g (node h k d r)))
         by nothing (inl j) here rest = absurd j

@@ -38,7 +38,8 @@ module _ {K V : Type 0} (cmp : K → K → Ordering) (f g : V → List ℕ) wher
   AllAlike xs ys = SameMap cmp (λ d c. d ≡ c) (digests f xs) (digests g ys)
 
   -- where the first rows and the next are alike, so are one more
-  pub alike_more : (xs ys : List (K × V)) (i : ℕ) (x y : K × V) → i < length xs → i < length ys → x ≡ get_or xs i x → y ≡ get_or ys i y → AllAlike (take i xs) (take i ys) → IsAlike x y → AllAlike (take (i + 1) xs) (take (i + 1) ys)
+  pub alike_more : (xs ys : List (K × V)) (i : ℕ) (x y : K × V) → i < length xs → i < length ys → x ≡ get_or xs i x → y ≡ get_or ys i y → AllAlike (take i xs) (take i ys)
+      → IsAlike x y → AllAlike (take (i + 1) xs) (take (i + 1) ys)
   alike_more xs ys i x y p q e h so_far next =
       subst (λ us. AllAlike us (take (i + 1) ys)) (sym (one_more xs i x p e)) (subst (λ vs. AllAlike (take i xs ++ x ∷ []) vs) (sym (one_more ys i y q h))
       (subst (λ us. SameMap cmp (λ d c. d ≡ c) us (digests g (take i ys ++ y ∷ []))) (sym (map-append (λ (r : K × V). (r.0, f r.1)) (take i xs) (x ∷ [])))

@@ -9,7 +9,7 @@ use Rattle.merkle_tree_theory.specs.State.{SameSettings}
 use Rattle.merkle_wire.specs.Found.{Found}
 use Rattle.merkle_wire.specs.Next.{AsksOrGoesOn, IsNext}
 use Rattle.merkle_wire.specs.Questions.{question_bytes}
-use Rattle.merkle_wire.specs.Sessions.{AreExchanges, IsAnswer, IsExchange, SessionsBring}
+use Rattle.merkle_wire.specs.Sessions.{AreExchanges, IsPeerReply, IsExchange, SessionsBring}
 use Rattle.merkle_wire.specs.Underway.{Underway}
 use Rattle.merkle_wire.specs.declared.catching_up.Next.{Next}
 use Rattle.merkle_wire.specs.declared.catching_up.Next.TheVariants.{Ask, Came}
@@ -19,7 +19,7 @@ use Rattle.merkle_delta.specs.Hearing.{IsHeard, IsSafe, IsSentFor, ToldIsHeard}
 use Rattle.merkle_delta.specs.Messages.{IsPlain}
 use Rattle.merkle_delta.specs.declared.hearing.Heard.{Heard}
 use Rattle.merkle_delta.specs.declared.hearing.Heard.TheVariants.{Reply, Again}
-use Rattle.merkle_store.specs.Exchanges.{AreRepliesBy, Exchange, HeardLeads, IsReplyBy, LeadTo, NextLeads, NoneCollides, RepliesBring, on_wire}
+use Rattle.merkle_store.specs.Exchanges.{AreRepliesBy, Exchange, HeardLeads, IsToldReply, LeadTo, NextLeads, NoneCollides, RepliesBring, on_wire}
 
 -- the second byte, that of the kind
 abbrev second : List ℕ → ℕ
@@ -48,13 +48,13 @@ module _ {K V H : Type 0} (laws : Laws K V H) (n : ℕ) (encoding : K → List �
     HasPlain session = (more : List (Underway K V)) × AreExchanges laws n encoding values local (side peer) session more rows
 
     -- the plain reply of the peer answers what the catch-up asks
-    answers : (session : Underway K V) (question message reply : List ℕ) (by : IsReplyBy laws n encoding values peer message reply)
-        → question ≡ question_bytes encoding session.asked → by.answer.question ≡ question → IsAnswer laws n encoding values local (side peer) session by.answer.plain.items
+    answers : (session : Underway K V) (question message reply : List ℕ) (by : IsToldReply laws n encoding values peer message reply)
+        → question ≡ question_bytes encoding session.asked → by.answer.question ≡ question → IsPeerReply laws n encoding values local (side peer) session by.answer.plain.items
     answers session question message reply by asks is =
         let same = same_side peer by.before by.rows.0 by.settings.0 in
         let settings : SameSettings by.before.tree by.after.tree = (by.settings.1.0 ∙ sym by.settings.0.0, by.settings.1.1 ∙ sym by.settings.0.1, by.settings.1.2 ∙ sym by.settings.0.2) in
         let (read, reads, is_reply) = by.answer.answered in
-        subst (λ s. IsAnswer laws n encoding values local s session by.answer.plain.items) same (record {
+        subst (λ s. IsPeerReply laws n encoding values local s session by.answer.plain.items) same (record {
           message = by.answer.question;
           question = read;
           tree = by.after.tree;
@@ -66,10 +66,11 @@ module _ {K V H : Type 0} (laws : Laws K V H) (n : ℕ) (encoding : K → List �
         })
 
     module _ (e : Exchange) (others : List Exchange) (session : Underway K V) (question : List ℕ) (asks : question ≡ question_bytes encoding session.asked)
-        (sent : IsSentFor question e.told e.message) (by : IsReplyBy laws n encoding values peer e.message e.reply) (safe : IsSafe e.told e.reply by.answer.plain.items)
+        (sent : IsSentFor question e.told e.message) (by : IsToldReply laws n encoding values peer e.message e.reply) (safe : IsSafe e.told e.reply by.answer.plain.items)
         (rest : (next : Underway K V) (asked : List ℕ) → asked ≡ question_bytes encoding next.asked → LeadTo laws n encoding values local rows others next asked → HasPlain next) where
       heard_as : (by.answer.question ≡ question) × ((heard : Vec ℕ) → IsHeard e.told e.reply (Reply heard) → heard.items ≡ by.answer.plain.items)
-      heard_as = told_is_heard e.told question e.message by.answer.question by.answer.plain.items e.reply by.answer.checksums (is_plain session.asked question asks) sent by.answer.asked by.answer.told safe
+      heard_as = told_is_heard e.told question e.message by.answer.question by.answer.plain.items e.reply by.answer.checksums
+          (is_plain session.asked question asks) sent by.answer.asked by.answer.told safe
 
       -- one exchange more is a plain one
       exchanged : (plain : Vec ℕ) (next : Next K V) → IsHeard e.told e.reply (Reply plain) → IsNext laws n encoding values local session plain.items next
@@ -88,7 +89,8 @@ module _ {K V H : Type 0} (laws : Laws K V H) (n : ℕ) (encoding : K → List �
           (next ∷ others_plain, (asked, exchanged plain (Ask next asked) hears (found, again, taken, more), all))
 
       -- or none
-      one_more : (heard : Heard) → IsHeard e.told e.reply heard → HeardLeads laws n encoding values local rows others (LeadTo laws n encoding values local rows others) session question heard → HasPlain session
+      one_more : (heard : Heard) → IsHeard e.told e.reply heard → HeardLeads laws n encoding values local rows others
+          (LeadTo laws n encoding values local rows others) session question heard → HasPlain session
       one_more (Reply plain) hears (next, takes, leads) = goes_on plain next hears takes leads
       one_more (Again again) hears (alone, leads) = rest session question asks leads
 

@@ -15,7 +15,7 @@ use Rattle.merkle_delta.specs.Hearing.{IsHeard, IsSentFor, Told}
 use Rattle.merkle_delta.specs.declared.hearing.Heard.TheVariants.{Reply, Again}
 use Rattle.store_table.specs.WireRegisters.{register_encoding}
 use Rattle.store_table.specs.declared.register.Register.{Register}
-use Rattle.merkle_store.specs.Exchanges.{Begins, Exchange, IsReplyBy, LeadTo, Wire, on_wire}
+use Rattle.merkle_store.specs.Exchanges.{Begins, Exchange, IsToldReply, LeadTo, Wire, on_wire}
 use Rattle.merkle_store.specs.Framing.{Streams, frame_of}
 use Rattle.merkle_store.specs.Sessions.{EntryContents, entry_laws, key_encoding, all_asked, all_told, CatchesUp, HasServed}
 
@@ -140,12 +140,12 @@ module _ (replica : EntryContents) (most : ℕ) (before : Streams) where
     }
 
   -- one more was
-  pub has_served_more : (mid after : Streams) (message reply : List ℕ) → HasServed replica most before mid → IsReplyBy entry_laws 16 key_encoding register_encoding replica message reply
+  pub has_served_more : (mid after : Streams) (message reply : List ℕ) → HasServed replica most before mid → IsToldReply entry_laws 16 key_encoding register_encoding replica message reply
       → length message ≤ most → Consumes mid.1 after.1 (frame_of message) → Appends mid.0 after.0 (frame_of reply) → HasServed replica most before after
   has_served_more mid after message reply (wire, served) is fits came sent = (
     wire ++ (message, reply) ∷ [],
     record {
-      replies = each-append (λ e. IsReplyBy entry_laws 16 key_encoding register_encoding replica e.0 e.1) wire ((message, reply) ∷ []) served.replies (is, tt);
+      replies = each-append (λ e. IsToldReply entry_laws 16 key_encoding register_encoding replica e.0 e.1) wire ((message, reply) ∷ []) served.replies (is, tt);
       fits = each-append (λ e. length e.0 ≤ most) wire ((message, reply) ∷ []) served.fits (fits, tt);
       asked = all_read (λ e. frame_of e.0) before.1 mid.1 after.1 wire (message, reply) served.asked came;
       told = all_written (λ e. frame_of e.1) before.0 mid.0 after.0 wire (message, reply) served.told sent;

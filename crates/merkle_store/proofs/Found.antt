@@ -21,7 +21,7 @@ use Rattle.store_table.specs.Entries.{entry_row, entry_row_of, entry_order}
 use Rattle.store_table.specs.Latest.{rows_of, IsLatestAt}
 use Rattle.store_table.specs.Registers.{register_order}
 use Rattle.store_table.specs.declared.register.Register.{Register}
-use Rattle.merkle_store.specs.Kept.{IsKept}
+use Rattle.merkle_store.specs.Kept.{HoldsLatest}
 use Rattle.merkle_store.proofs.Agreeing.{one_row}
 
 last_row : (found : Option (Key × Register)) (es : List (Key × Register)) → last_or (option_map entry_row found) (map entry_row es) ≡ option_map entry_row (last_or found es)
@@ -50,7 +50,8 @@ module _ (total_registers : IsTotalOrder register_order) (eq : Register → Regi
 
   -- the rows of the key are those of its entries
   rows_are : (es : List (Key × Register)) → rows_of (string_bytes k) (map entry_row es) ≡ map entry_row (filter is_mine es)
-  rows_are es = filter-map (λ row. is_eq (value_cmp (column row 0) (Words (string_bytes k)))) entry_row es ∙ ap (λ test. map entry_row (filter test es)) (λ i r. is_eq (value_cmp-Text (string_bytes r.0) (string_bytes k) i))
+  rows_are es = filter-map (λ row. is_eq (value_cmp (column row 0) (Words (string_bytes k)))) entry_row es
+      ∙ ap (λ test. map entry_row (filter test es)) (λ i r. is_eq (value_cmp-Text (string_bytes r.0) (string_bytes k) i))
 
   -- the entries of the key alone gather what all gather
   gather_mine : (es : List (Key × Register)) → G (filter is_mine es) ≡ G es
@@ -96,13 +97,15 @@ module _ (total_registers : IsTotalOrder register_order) (eq : Register → Regi
       ties r s.1 ∙ ap is_eq (then_tied (text_order k s.0) (register_order r s.1) (one_row (k, r) s row)).1
 
   -- what is found is what the rows in memory have
-  pub found_kept : (writer : List ℕ) (trees : Trees) (rows : List (Key × Register)) (found : Option Register) → IsKept eq (ord_max register_order) writer trees rows → IsLatestAt trees (string_bytes k) found → E found (get text_order rows k)
+  pub found_kept : (writer : List ℕ) (trees : Trees) (rows : List (Key × Register)) (found : Option Register) → HoldsLatest eq (ord_max register_order) writer trees rows
+      → IsLatestAt trees (string_bytes k) found → E found (get text_order rows k)
   found_kept writer trees rows found kept latest =
       let es = kept.entries in
       let mine = filter is_mine es in
       let last = last_or None mine in
       let own : rows_of (string_bytes k) (trees 0) ≡ map entry_row mine = ap (rows_of (string_bytes k)) kept.held.rows ∙ rows_are es in
       let row = sym latest ∙ ap (last_or None) own ∙ last_row None mine in
-      let gathers : E (register_of last) (G es) = subst (E (register_of last)) (gather_mine es) (last_gathers mine (recursion_from_All _ _ (filter_passes is_mine es)) (ascending-filter _ is_mine es kept.held.ascending)) in
+      let gathers : E (register_of last) (G es) = subst (E (register_of last)) (gather_mine es)
+      (last_gathers mine (recursion_from_All _ _ (filter_passes is_mine es)) (ascending-filter _ is_mine es kept.held.ascending)) in
       on eq e (ord_max register_order) j found (register_of last) (get text_order rows k) (tells_last found last row)
       (on eq e (ord_max register_order) j (register_of last) (G es) (get text_order rows k) gathers (back eq e (ord_max register_order) j (get text_order rows k) (G es) (kept.gathered.values k)))

@@ -33,6 +33,7 @@ module _ (eq : Register → Register → Bool) (e : IsEquivalence eq) (join : Re
       (back eq e join j (J r those) (J w (J b those)) (taken_apart r b w those grown)))
 
   -- what makes the same with the rows before makes the same with the rows that these have grown to
-  pub grown_join_the_same : (before written rows these those : List (Key × Register)) → HasGathered text_order eq join before written rows → JoinTheSame eq join before these those → JoinTheSame eq join rows these those
+  pub grown_join_the_same : (before written rows these those : List (Key × Register)) → HasGathered text_order eq join before written rows
+      → JoinTheSame eq join before these those → JoinTheSame eq join rows these those
   grown_join_the_same before written rows these those grown alike k =
       joins_over (get text_order rows k) (get text_order before k) (G written k) (G these k) (G those k) (grown.values k) (alike k)

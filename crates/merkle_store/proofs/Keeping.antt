@@ -13,7 +13,7 @@ use Rattle.store_table.specs.Entries.{HoldsEntries, entry_row, note_in, IsNoted}
 use Rattle.store_table.specs.Registers.{register_order}
 use Rattle.store_table.specs.declared.register.Register.{Register}
 use Rattle.store_table.specs.declared.format.TheConstants.{FORMAT}
-use Rattle.merkle_store.specs.Kept.{IsKept, JoinTheSame}
+use Rattle.merkle_store.specs.Kept.{HoldsLatest, JoinTheSame}
 use Rattle.store_table.proofs.Inserting.{holds_more}
 use Rattle.merkle_store.proofs.Adding.{inserted_gather}
 
@@ -39,11 +39,13 @@ module _ (eq : Register → Register → Bool) (e : IsEquivalence eq) (join : Re
             let B = G rows k in
             let R = get text_order (r ∷ []) k in
             on eq e join j (get text_order now k) (J (get text_order p.0 k) B) (J A (J R B)) (h.values k)
-            (on eq e join j (J (get text_order p.0 k) B) (J (J A R) B) (J A (J R B)) (cong eq e join j (get text_order p.0 k) (J A R) B B (p.1.values k) (same eq e join j B)) (assoc eq e join j A R B));
+            (on eq e join j (J (get text_order p.0 k) B) (J (J A R) B) (J A (J R B))
+            (cong eq e join j (get text_order p.0 k) (J A R) B B (p.1.values k) (same eq e join j B)) (assoc eq e join j A R B));
       }
 
   -- what was read is kept
-  pub kept_read : (writer hash_key : List ℕ) (trees : Trees) (entries rows : List (Key × Register)) → IsNoted trees FORMAT writer hash_key → HoldsEntries trees entries → IsPuts text_order eq join [] entries rows → IsKept eq join writer trees rows
+  pub kept_read : (writer hash_key : List ℕ) (trees : Trees) (entries rows : List (Key × Register)) → IsNoted trees FORMAT writer hash_key → HoldsEntries trees entries
+      → IsPuts text_order eq join [] entries rows → HoldsLatest eq join writer trees rows
   kept_read writer hash_key trees entries rows about held puts = record { hash_key = hash_key; about = about; entries = entries; held = held; gathered = gathered_puts entries [] rows puts }
 
   -- what joins the same gathers the same
@@ -59,8 +61,9 @@ module _ (eq : Register → Register → Bool) (e : IsEquivalence eq) (join : Re
 
   module _ (ties : (a b : Register) → eq a b ≡ eq_by_cmp register_order a b) where
     -- entries put into the file, of which those that are there already stay, and joined in memory
-    pub kept_all : (writer : List ℕ) (old new : Trees) (more rows rows' : List (Key × Register)) → IsKept eq join writer old rows → HasMore (map entry_row more) old new → HasGathered text_order eq join rows more rows'
-        → IsKept eq join writer new rows'
+    pub kept_all : (writer : List ℕ) (old new : Trees) (more rows rows' : List (Key × Register)) → HoldsLatest eq join writer old rows → HasMore (map entry_row more) old new
+        → HasGathered text_order eq join rows more rows'
+        → HoldsLatest eq join writer new rows'
     kept_all writer old new more rows rows' kept has joins =
         let all = holds_more old new kept.entries more kept.held has in
         record {

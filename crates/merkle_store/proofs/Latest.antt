@@ -47,7 +47,8 @@ module _ (o : IsTotalOrder register_order) (eq : Register → Register → Bool)
         own None h = absurd (let z = h in cc)
         own (Some x) h = not_later x r.1 h
 
-        by : (is_eq (text_order r.0 k) ≡ false) ⊎ (is_eq (text_order r.0 k) ≡ true) → Eq eq e (ord_max register_order) j (joined (ord_max register_order) (get text_order rows k) (at k r)) (get text_order rows k)
+        by : (is_eq (text_order r.0 k) ≡ false) ⊎ (is_eq (text_order r.0 k) ≡ true)
+            → Eq eq e (ord_max register_order) j (joined (ord_max register_order) (get text_order rows k) (at k r)) (get text_order rows k)
         by (inl f) = rw f (to_none eq e (ord_max register_order) j (get text_order rows k))
         by (inr f) = rw f (own (get text_order rows k) (subst (λ x. is_later x r.1 ≡ false) (get_same text_order total rows r.0 k (is_equal (text_order r.0 k) f)) n))
 
@@ -59,8 +60,12 @@ module _ (o : IsTotalOrder register_order) (eq : Register → Register → Bool)
     later_join_the_same [] k = same eq e (ord_max register_order) j (joined (ord_max register_order) (get text_order rows k) None)
     later_join_the_same (r ∷ entries) k = by (which (later r)) (later_join_the_same entries k)
       where
-        by : (later r ≡ false) ⊎ (later r ≡ true) → Eq eq e (ord_max register_order) j (joined (ord_max register_order) (get text_order rows k) (join_of_values text_order eq (ord_max register_order) entries k)) (joined (ord_max register_order) (get text_order rows k) (join_of_values text_order eq (ord_max register_order) (filter later entries) k))
-            → Eq eq e (ord_max register_order) j (joined (ord_max register_order) (get text_order rows k) (join_of_values text_order eq (ord_max register_order) (r ∷ entries) k)) (joined (ord_max register_order) (get text_order rows k) (join_of_values text_order eq (ord_max register_order) (filter later (r ∷ entries)) k))
+        by : (later r ≡ false) ⊎ (later r ≡ true) → Eq eq e (ord_max register_order) j
+            (joined (ord_max register_order) (get text_order rows k) (join_of_values text_order eq (ord_max register_order) entries k))
+            (joined (ord_max register_order) (get text_order rows k) (join_of_values text_order eq (ord_max register_order) (filter later entries) k))
+            → Eq eq e (ord_max register_order) j (joined (ord_max register_order) (get text_order rows k)
+            (join_of_values text_order eq (ord_max register_order) (r ∷ entries) k))
+            (joined (ord_max register_order) (get text_order rows k) (join_of_values text_order eq (ord_max register_order) (filter later (r ∷ entries)) k))
         by (inl n) h =
             let A = get text_order rows k in
             let G = join_of_values text_order eq (ord_max register_order) entries k in

@@ -75,7 +75,7 @@ module _ {K V H : Type 0} (laws : Laws K V H) (n : ℕ) (encoding : K → List �
 
   module _ (replica : Contents K V H) where
     -- the reply is what a replica with these rows and settings answers to the message, by a tree of its map, whichever digests its pages have already
-    pub record IsReplyBy (message reply : List ℕ) : Type 0 where
+    pub record IsToldReply (message reply : List ℕ) : Type 0 where
       pub before : Contents K V H
       pub after : Contents K V H
       pub rows : (before.rows ≡ replica.rows) × (after.rows ≡ replica.rows)
@@ -85,7 +85,7 @@ module _ {K V H : Type 0} (laws : Laws K V H) (n : ℕ) (encoding : K → List �
 
     -- a replica's replies to each of these messages
     abbrev pub AreRepliesBy : Wire → Type 0
-    AreRepliesBy = AllByRecursion (λ e. IsReplyBy e.0 e.1)
+    AreRepliesBy = AllByRecursion (λ e. IsToldReply e.0 e.1)
 
     -- no reply tells other bytes with the digest of the plain reply that it was made of
     abbrev pub NoneCollides : (exchanges : List Exchange) → AreRepliesBy (on_wire exchanges) → Type 0

@@ -18,7 +18,7 @@ use Rattle.store_table.specs.contracts.registers.RegisterJoin.TheImpl as registe
 module _ (eq : Register → Register → Bool) (join : Register → Register → Register) where
   -- The trees are those of a store by this writer, and the rows in memory are the map that has, for each key of an entry of its table, the
   -- join of all registers that the entries have for it: the latest.
-  pub record IsKept (writer : List ℕ) (trees : Trees) (rows : List (Key × Register)) : Type 0 where
+  pub record HoldsLatest (writer : List ℕ) (trees : Trees) (rows : List (Key × Register)) : Type 0 where
     pub hash_key : List ℕ
     pub about : IsNoted trees FORMAT writer hash_key
     pub entries : List (Key × Register)
@@ -43,8 +43,8 @@ abbrev pub SameRegister : Option Register → Option Register → Type 0
 SameRegister = SameValue (λ x y. same_register x y ≡ true)
 
 -- the new rows are the join of the old ones with all these entries
-abbrev pub HasJoined : List (Key × Register) → List (Key × Register) → List (Key × Register) → Type 0
-HasJoined = HasGathered text_order same_register later_register
+abbrev pub JoinsEntries : List (Key × Register) → List (Key × Register) → List (Key × Register) → Type 0
+JoinsEntries = HasGathered text_order same_register later_register
 
 -- the new rows are what the old ones become where these entries are put, one after the other
 abbrev pub HasPut : List (Key × Register) → List (Key × Register) → List (Key × Register) → Type 0
@@ -52,7 +52,7 @@ HasPut = IsPuts text_order same_register later_register
 
 -- the rows in memory are those of the trees, which are a store's of this writer
 abbrev pub AreInStep : List ℕ → Trees → List (Key × Register) → Type 0
-AreInStep = IsKept same_register later_register
+AreInStep = HoldsLatest same_register later_register
 
 -- the rows in memory are those of the trees, by the writer that they note
 abbrev pub AreRowsOf : Trees → List (Key × Register) → Type 0
@@ -69,7 +69,7 @@ InStepTellFound = (writer : List ℕ) (trees : Trees) (rows : List (Key × Regis
 -- where entries are added to a table, its rows are the join of those before with these entries
 abbrev pub AddedAreJoined : Type 0
 AddedAreJoined = (entries : List (Key × Register)) (old new : Trees) (rows now : List (Key × Register))
-    → HasEntriesMore entries old new → AreRowsOf old rows → HasJoined rows entries now → AreRowsOf new now
+    → HasEntriesMore entries old new → AreRowsOf old rows → JoinsEntries rows entries now → AreRowsOf new now
 
 -- over a clean disk, a log whose file was closed and opened again has the rows that it had
 abbrev pub Reopens : {S : Type 0} → Ghosts S → S → S → Type 0

@@ -5,7 +5,7 @@ use Rattle.key_order.specs.Text.{Text, text_order}
 use Rattle.key_order.specs.Map.{get}
 use Rattle.store_table.specs.Registers.{is_later}
 use Rattle.store_table.specs.declared.register.Register.{Register}
-use Rattle.merkle_store.specs.Kept.{HasJoined}
+use Rattle.merkle_store.specs.Kept.{JoinsEntries}
 
 -- those of a peer's entries that are later than what the rows have for their keys
 abbrev pub later_entries : List (Text × Register) → List (Text × Register) → List (Text × Register)
@@ -17,4 +17,4 @@ AreTimely latest entries = All (λ entry. entry.1.time ≤ latest) entries
 
 -- rows that have grown, joined with the entries that are later than what they were before, are joined with all
 abbrev pub NewsBringAll : Type 0
-NewsBringAll = (before written rows came now : List (Text × Register)) → HasJoined before written rows → HasJoined rows (later_entries before came) now → HasJoined rows came now
+NewsBringAll = (before written rows came now : List (Text × Register)) → JoinsEntries before written rows → JoinsEntries rows (later_entries before came) now → JoinsEntries rows came now

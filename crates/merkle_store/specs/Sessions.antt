@@ -41,8 +41,8 @@ abbrev pub key_encoding : Text → List ℕ
 key_encoding key = string_encoding (string_bytes key)
 
 -- a replica answers a message
-abbrev pub IsAnswer : EntryContents → EntryContents → List ℕ → Vec ℕ → Type 0
-IsAnswer old new message reply = IsAnswered entry_laws 16 key_encoding register_encoding old new message reply.items
+abbrev pub AnswersMessage : EntryContents → EntryContents → List ℕ → Vec ℕ → Type 0
+AnswersMessage old new message reply = IsAnswered entry_laws 16 key_encoding register_encoding old new message reply.items
 
 -- all messages of the asking side, each after its length, and all replies likewise
 abbrev pub all_asked : Wire → List ℕ

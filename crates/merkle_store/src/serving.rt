@@ -1,7 +1,7 @@
 //! The answering side of a sync.
 ghost use Rattle.std.specs.Prelude.{◌≡◌, IfOk};
 ghost use Rattle.merkle_tree_theory.specs.State.{SameSettings};
-ghost use Rattle.merkle_store.specs.Sessions.{HasServedTo, IsAnswer};
+ghost use Rattle.merkle_store.specs.Sessions.{HasServedTo, AnswersMessage};
 
 use crate::framing::{ANSWER_BYTES, Watch, receive, send};
 use crate::rows::EntryReplica;
@@ -25,7 +25,7 @@ pub struct Served {
 /// The reply to a message: the plain one, or as its delta where the message tells checksums. It ends with the entry by which the plain one has
 /// [`ANSWER_BYTES`].
 fn answer(alloc: Global, replica: &mut EntryReplica, message: &[u8]) -> Result<Vec<u8>, AnswerError>
-    ensures answered { IfOk result (IsAnswer replica.old replica.new message.now) }
+    ensures answered { IfOk result (AnswersMessage replica.old replica.new message.now) }
     ensures rows { replica.new.rows ≡ replica.old.rows }
     ensures settings { SameSettings replica.old.tree replica.new.tree }
 {

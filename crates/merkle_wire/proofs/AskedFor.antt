@@ -53,8 +53,11 @@ module _ {K : Type 0} (cmp : K → K → Ordering) (o : IsTotalOrder cmp) where
   -- rows whose keys ascend between bounds are between them
   all_between : {V : Type 0} (a b : Option K) (rows : List (K × V)) → AscendBetween cmp a b (map (λ r. r.0) rows) → AllByRecursion (λ r. IsAfter cmp a r.0 × IsBefore cmp b r.0) rows
   all_between a b [] up = tt
-  all_between a b (r ∷ rows) up =
-      ((up.0, up.1), each (λ s. IsAfter cmp (Some r.0) s.0 × IsBefore cmp b s.0) (λ s. IsAfter cmp a s.0 × IsBefore cmp b s.0) (λ s p. (after_later a r.0 s.0 up.0 p.0, p.1)) rows (all_between (Some r.0) b rows up.2))
+  all_between a b (r ∷ rows) up = (
+    (up.0, up.1),
+    each (λ s. IsAfter cmp (Some r.0) s.0 × IsBefore cmp b s.0) (λ s. IsAfter cmp a s.0 × IsBefore cmp b s.0)
+        (λ s p. (after_later a r.0 s.0 up.0 p.0, p.1)) rows (all_between (Some r.0) b rows up.2),
+  )
 
 module _ {K V H : Type 0} (laws : Laws K V H) (o : IsTotalOrder laws.cmp) (local : Side K V H) where
   -- the rows that are new of rows in a gap are in it
@@ -68,7 +71,8 @@ module _ {K V H : Type 0} (laws : Laws K V H) (o : IsTotalOrder laws.cmp) (local
   adds_none : (P : K → Type 0) (before after : Found K V) → after.rows ≡ before.rows → AddsOnly P before after
   adds_none P before after e = ([], tt, e ∙ sym (append-nil before.rows))
 
-  taken_in_gap : (n : ℕ) (g : Gap K) (told : Outline K V) (before after : Found K V) → LiesIn laws.cmp n g told → IsTaken laws local g told before after → AddsOnly (λ k. IsInGap laws.cmp k g) before after
+  taken_in_gap : (n : ℕ) (g : Gap K) (told : Outline K V) (before after : Found K V) → LiesIn laws.cmp n g told → IsTaken laws local g told before after
+      → AddsOnly (λ k. IsInGap laws.cmp k g) before after
   taken_in_gap n g (rows_told rows) before after lies taken = (new_rows laws local rows, new_in_gap g rows lies, ap (λ f. f.rows) taken)
   taken_in_gap n g (digests_told nodes) before after lies taken = adds_none (λ k. IsInGap laws.cmp k g) before after (ap (λ f. f.rows) taken)
   taken_in_gap n g (page_told digest keys pages) before after lies taken = adds_none (λ k. IsInGap laws.cmp k g) before after (ap (λ f. f.rows) taken.4)
@@ -84,7 +88,8 @@ module _ {K V H : Type 0} (laws : Laws K V H) (o : IsTotalOrder laws.cmp) (local
         rest.2 ∙ ap (λ t. t ++ rest.0) first.2 ∙ append_assoc before.rows first.0 rest.0,
       )
 
-  in_more_gaps : (gaps first left : List (OwnedGap K)) (before after : Found K V) → gaps ≡ first ++ left → AddsOnly (IsInOneOf laws.cmp first) before after → AddsOnly (IsInOneOf laws.cmp gaps) before after
+  in_more_gaps : (gaps first left : List (OwnedGap K)) (before after : Found K V) → gaps ≡ first ++ left → AddsOnly (IsInOneOf laws.cmp first) before after
+      → AddsOnly (IsInOneOf laws.cmp gaps) before after
   in_more_gaps gaps first left before after e a =
       (a.0, subst (λ gs. AllByRecursion (λ r. IsInOneOf laws.cmp gs r.0) a.0) (sym e) (each _ _ (λ r. any-before (λ g. IsInGap laws.cmp r.0 (owned_gap g)) first left) a.0 a.1), a.2)
 
@@ -97,7 +102,8 @@ module _ {K V H : Type 0} (laws : Laws K V H) (o : IsTotalOrder laws.cmp) (local
       → AllByRecursion (λ r. IsInOneOf laws.cmp (map (λ t. t.0) told) r.0) (flat_map (λ t. t.1.rows) told)
   rows_in_parts [] up = tt
   rows_in_parts (t ∷ ts) up =
-      each-append _ t.1.rows (flat_map (λ t. t.1.rows) ts) (each _ _ (λ r p. inl p) t.1.rows (all_between laws.cmp o t.0.after t.0.before t.1.rows up.0)) (each _ _ (λ r p. inr p) (flat_map (λ t. t.1.rows) ts) (rows_in_parts ts up.1))
+      each-append _ t.1.rows (flat_map (λ t. t.1.rows) ts) (each _ _ (λ r p. inl p) t.1.rows (all_between laws.cmp o t.0.after t.0.before t.1.rows up.0))
+      (each _ _ (λ r p. inr p) (flat_map (λ t. t.1.rows) ts) (rows_in_parts ts up.1))
 
   root_adds_none : (digest : Option (List ℕ)) (before after : Found K V) → IsRootTaken laws local digest before after → after.rows ≡ before.rows
   root_adds_none None before after e = ap (λ f. f.rows) e
@@ -122,7 +128,8 @@ module _ {K V H : Type 0} (laws : Laws K V H) (o : IsTotalOrder laws.cmp) (local
       )
   taken_asked n encoding values (RowsIn gaps) reply before after again t =
       let told = t.1.0 in
-      in_more_gaps gaps.items (map (λ t. t.0) told) t.1.2 before after t.1.5 (new_rows laws local (flat_map (λ t. t.1.rows) told), each_passed _ _ (flat_map (λ t. t.1.rows) told) (rows_in_parts told t.1.6), ap (λ f. f.rows) t.1.9)
+      in_more_gaps gaps.items (map (λ t. t.0) told) t.1.2 before after t.1.5
+      (new_rows laws local (flat_map (λ t. t.1.rows) told), each_passed _ _ (flat_map (λ t. t.1.rows) told) (rows_in_parts told t.1.6), ap (λ f. f.rows) t.1.9)
 
 module _ {K V : Type 0} where
   -- what is asked next leaves the rows
@@ -144,7 +151,8 @@ module _ {K V H : Type 0} (laws : Laws K V H) (o : IsTotalOrder laws.cmp) where
   only_asked n encoding values local before reply next (found, again, taken, goes) =
       goes_on again next (taken_asked laws o local n encoding values before.asked reply before.found found again taken) goes
     where
-      goes_on : (again : Option (Question K)) (next : Next K V) → AddsOnly laws o local (IsAskedFor laws.cmp before.asked) before.found found → AsksOrGoesOn laws.cmp encoding again before.rounds found next
+      goes_on : (again : Option (Question K)) (next : Next K V) → AddsOnly laws o local (IsAskedFor laws.cmp before.asked) before.found found
+          → AsksOrGoesOn laws.cmp encoding again before.rounds found next
           → OnlyAskedFor laws.cmp before next
       goes_on None (Ask session message) a g = (a.0, a.1, asked_of_keeps session.asked found session.found g.0 ∙ a.2)
       goes_on None (Came rows) a g = (a.0, a.1, subst (λ rs. IsPermutation rs rows.items) a.2 g.1.0)

@@ -79,7 +79,8 @@ module _ {K V H : Type 0} (laws : Laws K V H) (peer : Side K V H) (root : Tree K
   goes_on_steady rounds f (Ask session message) s (asked, is, same) =
       subst (IsSteady laws peer root) (λ i. record { asked = session.asked; found = session.found; rounds = sym same i; left = session.left }) (from asked.1)
     where
-      from : IsTakenFrom session.asked f session.found ⊎ IsTakenFrom session.asked (all_whole f) session.found → IsSteady laws peer root (record { asked = session.asked; found = session.found; rounds = rounds_with rounds session.asked; left = session.left })
+      from : IsTakenFrom session.asked f session.found ⊎ IsTakenFrom session.asked (all_whole f) session.found
+          → IsSteady laws peer root (record { asked = session.asked; found = session.found; rounds = rounds_with rounds session.asked; left = session.left })
       from (inl t) = taken_steady session.asked rounds session.left f session.found asked.0 s t
       from (inr t) = taken_steady session.asked rounds session.left (all_whole f) session.found asked.0 (whole_steady rounds f s) t
 
@@ -92,13 +93,15 @@ module _ {K V H : Type 0} (laws : Laws K V H) (peer : Side K V H) (root : Tree K
   IsAgainFit rounds None = ⊤
   IsAgainFit rounds (Some question) = AsksForSome question × AsksForPages laws peer root rounds question
 
-  pub next_steady : (again : Option (Question K)) (rounds : ℕ) (f : Found K V) (next : Next K V) → IsAgainFit rounds again → AreSteady rounds (times_again again) f → AsksOrGoesOn laws.cmp encoding again rounds f next → SteadyNext laws peer root next
+  pub next_steady : (again : Option (Question K)) (rounds : ℕ) (f : Found K V) (next : Next K V) → IsAgainFit rounds again → AreSteady rounds (times_again again) f
+      → AsksOrGoesOn laws.cmp encoding again rounds f next → SteadyNext laws peer root next
   next_steady None rounds f next fit s goes = goes_on_steady rounds f next s goes
   next_steady (Some question) rounds f (Came rows) fit s goes = tt
   next_steady (Some question) rounds f (Ask session message) fit s (is, same) =
       subst (IsSteady laws peer root) (sym same) (record { some = fit.0; asked = fit.1; below = s.below; nodes = s.nodes; once = s.once })
 
-  pub again_fit : {X : Type 0} (ask : Vec X → Question K) (F : X → Type 0) (times : K → X → ℕ) (rounds : ℕ) (left : List X) (again : Option (Question K)) → ((xs : Vec X) → xs.items ≢ [] → AsksForSome (ask xs))
+  pub again_fit : {X : Type 0} (ask : Vec X → Question K) (F : X → Type 0) (times : K → X → ℕ) (rounds : ℕ) (left : List X) (again : Option (Question K))
+      → ((xs : Vec X) → xs.items ≢ [] → AsksForSome (ask xs))
       → ((xs : Vec X) → AllByRecursion F xs.items → AsksForPages laws peer root rounds (ask xs)) → ((k : K) (xs : Vec X) → times_asked laws peer root k (ask xs) ≡ total (times k) xs.items)
       → AsksAgain ask left again → AllByRecursion F left → IsAgainFit rounds again × ((k : K) → times_again again k ≡ total (times k) left)
   again_fit ask F times rounds left again some pages count (inl (none, e)) fits = (subst (IsAgainFit rounds) (sym e) tt, λ k. ap (λ a. times_again a k) e ∙ ap (total (times k)) (sym none))

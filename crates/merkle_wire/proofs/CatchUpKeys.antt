@@ -60,7 +60,8 @@ module _ {K V H : Type 0} (laws : Laws K V H) (o : IsTotalOrder laws.cmp) (is_ke
   new_gap_keys g None new none p = subst (AllByRecursion (HasKeyBounds is_key)) (sym none) tt
   new_gap_keys g (Some d) new is p = or_none_keys g new (gap_or_none laws local g d new is) p
 
-  new_gaps_keys : (g : Gap K) (ks : List K) (pages : List (Option (List ℕ))) (new : List (Gap K)) → AreNewGaps laws local g ks pages new → HasKeyBounds is_key g → AllByRecursion is_key ks → AllByRecursion (HasKeyBounds is_key) new
+  new_gaps_keys : (g : Gap K) (ks : List K) (pages : List (Option (List ℕ))) (new : List (Gap K)) → AreNewGaps laws local g ks pages new → HasKeyBounds is_key g
+      → AllByRecursion is_key ks → AllByRecursion (HasKeyBounds is_key) new
   new_gaps_keys g [] [] new is p a = absurd is
   new_gaps_keys g [] (page ∷ []) new is p a = new_gap_keys g page new is p
   new_gaps_keys g [] (page ∷ next ∷ pages) new is p a = absurd is
@@ -77,7 +78,8 @@ module _ {K V H : Type 0} (laws : Laws K V H) (o : IsTotalOrder laws.cmp) (is_ke
   abbrev Keys : Found K V → Type 0
   Keys = AreKeysOf is_key
 
-  one_keys : (rows : List (K × V)) (with_pages : Bool) (items : List (Item K (List ℕ))) (g : Gap K) (x y : Outline K V) (before after : Found K V) → AllByRecursion (λ m. is_key m.0) (nodes_among items) → HasKeyBounds is_key g
+  one_keys : (rows : List (K × V)) (with_pages : Bool) (items : List (Item K (List ℕ))) (g : Gap K) (x y : Outline K V) (before after : Found K V)
+      → AllByRecursion (λ m. is_key m.0) (nodes_among items) → HasKeyBounds is_key g
       → SameOutline laws.cmp laws.eq x y → IsTold laws.cmp rows with_pages items y → IsTaken laws local g x before after → Keys before → Keys after
   one_keys rows with_pages items g (rows_told rs) y before after nodes p same told taken f =
       subst Keys (sym taken) (record { below = f.below; nodes = f.nodes; wanted = f.wanted; whole = f.whole })
@@ -98,8 +100,10 @@ module _ {K V H : Type 0} (laws : Laws K V H) (o : IsTotalOrder laws.cmp) (is_ke
   one_keys rows with_pages items g (page_told c js ps) (digests_told ms) before after nodes p same told taken f = absurd same
 
   -- what was told of pages is taken
-  pub outlines_keys : (rows : List (K × V)) (E : OwnedGap K → OwnedGap K → Type 0) (with_pages : Bool) (items : OwnedGap K → List (Item K (List ℕ))) → ((g : OwnedGap K) → AllByRecursion (λ m. is_key m.0) (nodes_among (items g)))
-      → (ts us : List (OwnedGap K × Outline K V)) (before after : Found K V) → AllByRecursion (λ g. HasKeyBounds is_key (owned_gap g)) (map (λ t. t.0) ts) → AllZip (λ t u. E t.0 u.0 × SameOutline laws.cmp laws.eq t.1 u.1) ts us
+  pub outlines_keys : (rows : List (K × V)) (E : OwnedGap K → OwnedGap K → Type 0) (with_pages : Bool) (items : OwnedGap K → List (Item K (List ℕ)))
+      → ((g : OwnedGap K) → AllByRecursion (λ m. is_key m.0) (nodes_among (items g)))
+      → (ts us : List (OwnedGap K × Outline K V)) (before after : Found K V) → AllByRecursion (λ g. HasKeyBounds is_key (owned_gap g)) (map (λ t. t.0) ts)
+      → AllZip (λ t u. E t.0 u.0 × SameOutline laws.cmp laws.eq t.1 u.1) ts us
       → AllByRecursion (λ u. IsTold laws.cmp rows with_pages (items u.0) u.1) us → AreTaken laws local ts before after → Keys before → Keys after
   outlines_keys rows E with_pages items nodes [] us before after p s told taken f = subst Keys (sym taken) f
   outlines_keys rows E with_pages items nodes (t ∷ ts) [] before after p s told taken f = absurd s
@@ -115,14 +119,16 @@ module _ {K V H : Type 0} (laws : Laws K V H) (o : IsTotalOrder laws.cmp) (is_ke
   last_is_key row [] a = a.0
   last_is_key row (next ∷ rows) a = last_is_key next rows a.1
 
-  behind_keys : (t : OwnedGap K × Part K V) (left : List (OwnedGap K)) → HasKeyBounds is_key (owned_gap t.0) → AllByRecursion (λ r. is_key r.0) t.1.rows → IsBehind laws.cmp (owned_gap t.0) t.1 left → AllByRecursion (λ g. HasKeyBounds is_key (owned_gap g)) left
+  behind_keys : (t : OwnedGap K × Part K V) (left : List (OwnedGap K)) → HasKeyBounds is_key (owned_gap t.0) → AllByRecursion (λ r. is_key r.0) t.1.rows
+      → IsBehind laws.cmp (owned_gap t.0) t.1 left → AllByRecursion (λ g. HasKeyBounds is_key (owned_gap g)) left
   behind_keys t left p a (inl (all, none)) = subst (AllByRecursion (λ g. HasKeyBounds is_key (owned_gap g))) (sym none) tt
   behind_keys t left p a (inr (row, rows, own, some, are, same, is)) =
       let last = last_is_key row rows (subst (AllByRecursion (λ r. is_key r.0)) are a) in
       subst (AllByRecursion (λ g. HasKeyBounds is_key (owned_gap g))) (sym is) (gap_alike (part_behind (owned_gap t.0) (last_key row.0 rows)) (owned_gap own) same (last, p.1), tt)
 
   -- the gaps after parts of the rows in gaps
-  pub parts_keys : (ts : List (OwnedGap K × Part K V)) (left : List (OwnedGap K)) → AllByRecursion (λ g. HasKeyBounds is_key (owned_gap g)) (map (λ t. t.0) ts) → AllByRecursion (λ r. is_key r.0) (flat_map (λ t. t.1.rows) ts) → AreBehind laws.cmp ts left
+  pub parts_keys : (ts : List (OwnedGap K × Part K V)) (left : List (OwnedGap K)) → AllByRecursion (λ g. HasKeyBounds is_key (owned_gap g)) (map (λ t. t.0) ts)
+      → AllByRecursion (λ r. is_key r.0) (flat_map (λ t. t.1.rows) ts) → AreBehind laws.cmp ts left
       → AllByRecursion (λ g. HasKeyBounds is_key (owned_gap g)) left
   parts_keys [] left p a none = subst (AllByRecursion (λ g. HasKeyBounds is_key (owned_gap g))) (sym none) tt
   parts_keys (t ∷ ts) left p a (first, rest, one, more, e) =

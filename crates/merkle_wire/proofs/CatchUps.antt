@@ -21,7 +21,8 @@ use Rattle.merkle_wire.specs.Sessions.{IsFaithfulSession, IsNewRow, AreBrought, 
 use Rattle.merkle_wire.specs.Taking.{is_digest, has_row}
 use Rattle.merkle_wire.proofs.RoundCovers.{any-map}
 
-module _ {K V H : Type 0} (laws : Laws K V H) (o : IsTotalOrder laws.cmp) (eqv : IsEquivalence laws.eq) (joining : IsJoining laws.eq laws.join) (respects : (h : H) (a b : V) → laws.eq a b ≡ true → laws.value_digest h a ≡ laws.value_digest h b)
+module _ {K V H : Type 0} (laws : Laws K V H) (o : IsTotalOrder laws.cmp) (eqv : IsEquivalence laws.eq) (joining : IsJoining laws.eq laws.join)
+    (respects : (h : H) (a b : V) → laws.eq a b ≡ true → laws.value_digest h a ≡ laws.value_digest h b)
     (local peer : Side K V H) (up_peer : IsMap laws.cmp peer.rows) where
   abbrev keys_in : List (K × V) → List K
   keys_in = map (λ r. r.0)
@@ -52,7 +53,8 @@ module _ {K V H : Type 0} (laws : Laws K V H) (o : IsTotalOrder laws.cmp) (eqv :
       )
 
   -- so the join of the rows is a catch-up
-  pub brought_is_catch_up : (rows after : List (K × V)) → AreBrought laws local peer rows → IsJoin laws.cmp laws.eq laws.join local.rows rows after → IsFaithfulSession laws local peer → IsCatchUp laws local peer (keys_in rows) after
+  pub brought_is_catch_up : (rows after : List (K × V)) → AreBrought laws local peer rows → IsJoin laws.cmp laws.eq laws.join local.rows rows after
+      → IsFaithfulSession laws local peer → IsCatchUp laws local peer (keys_in rows) after
   brought_is_catch_up rows after b joins faith =
       let ascending = keys_ascend rows b.ascending in
       let all = λ (k : K) (l : IsLacked laws local peer k). any-map (Same laws.cmp k) (λ r. r.0) rows (b.all faith k l) in
@@ -63,11 +65,13 @@ module _ {K V H : Type 0} (laws : Laws K V H) (o : IsTotalOrder laws.cmp) (eqv :
           unless_hidden = λ k l. inl (all k l);
           all = λ faithful k l. all k l;
         };
-        joins = join_same laws.cmp o laws.eq eqv laws.join joining local.rows rows (rows_in laws.cmp (points (keys_in rows)) peer.rows) after (copies_are laws.cmp o laws.eq peer.rows (keys_in rows) rows up_peer ascending (copies rows b.new)) joins;
+        joins = join_same laws.cmp o laws.eq eqv laws.join joining local.rows rows (rows_in laws.cmp (points (keys_in rows)) peer.rows) after
+            (copies_are laws.cmp o laws.eq peer.rows (keys_in rows) rows up_peer ascending (copies rows b.new)) joins;
       }
 
   -- and leaves the join of both sides' rows
-  pub brought_joins : (rows after : List (K × V)) → AreBrought laws local peer rows → IsJoin laws.cmp laws.eq laws.join local.rows rows after → IsFaithfulSession laws local peer → IsJoin laws.cmp laws.eq laws.join local.rows peer.rows after
+  pub brought_joins : (rows after : List (K × V)) → AreBrought laws local peer rows → IsJoin laws.cmp laws.eq laws.join local.rows rows after
+      → IsFaithfulSession laws local peer → IsJoin laws.cmp laws.eq laws.join local.rows peer.rows after
   brought_joins rows after b joins faith = all_joined laws o local peer eqv joining (keys_in rows) after faith.faithful (brought_is_catch_up rows after b joins faith)
 
   -- so it is where this many rows are joined

@@ -51,8 +51,10 @@ total-equal f h e [] = refl
 total-equal f h e (x ∷ xs) = omega (arith, e x, total-equal f h e xs)
 
 module _ {K V H : Type 0} (laws : Laws K V H) (o : IsTotalOrder laws.cmp) (eqv : IsEquivalence laws.eq) (encoding : K → List ℕ) (values : V → List ℕ) (tell : Tell laws encoding values) (n : ℕ)
-    (local : Side K V H) (peer : Contents K V H) (root : Tree K (List ℕ)) (sides : AreSides laws local (side peer) root peer.tree.root) (small : AllByRecursion (λ p. length p.1 ≡ n) (tree_map laws (side peer)))
-    (one_digest : (format : PageFormat) (t u : Tree K (List ℕ)) → SamePages laws.cmp t u → page_digest format laws.bytes_of t ≡ page_digest format laws.bytes_of u) (is_there : Gap K → List ℕ → Bool) (tells : TellsOwnPages laws local is_there) where
+    (local : Side K V H) (peer : Contents K V H) (root : Tree K (List ℕ)) (sides : AreSides laws local (side peer) root peer.tree.root)
+    (small : AllByRecursion (λ p. length p.1 ≡ n) (tree_map laws (side peer)))
+    (one_digest : (format : PageFormat) (t u : Tree K (List ℕ)) → SamePages laws.cmp t u → page_digest format laws.bytes_of t ≡ page_digest format laws.bytes_of u)
+    (is_there : Gap K → List ℕ → Bool) (tells : TellsOwnPages laws local is_there) where
   abbrev tree : Tree K (List ℕ)
   tree = peer.tree.root
 
@@ -92,10 +94,12 @@ module _ {K V H : Type 0} (laws : Laws K V H) (o : IsTotalOrder laws.cmp) (eqv :
       (omega (
         arith,
         total-append over_root before.below gaps,
-        total-equal over_root (lacked_over laws.cmp format laws.bytes_of is_there tree) (λ y. lacked_over-same laws o local format (one_digest format) is_there tells root tree y y sides.same (same_gap-own laws.cmp o y)) gaps,
+        total-equal over_root (lacked_over laws.cmp format laws.bytes_of is_there tree)
+            (λ y. lacked_over-same laws o local format (one_digest format) is_there tells root tree y y sides.same (same_gap-own laws.cmp o y)) gaps,
         lacked_filled laws o local format (one_digest format) is_there tells root up_own g t f,
         lacked-same laws o local format (one_digest format) is_there tells g h t u s alike,
-        parts_lacked laws o local format (one_digest format) is_there tells tree up (λ k. level_of (laws.key_digest peer.tree.hasher k) peer.tree.base) sides.is_tree.0 h g u js gaps (fills-alike laws.cmp o g h u tree s fu)
+        parts_lacked laws o local format (one_digest format) is_there tells tree up
+            (λ k. level_of (laws.key_digest peer.tree.hasher k) peer.tree.base) sides.is_tree.0 h g u js gaps (fills-alike laws.cmp o g h u tree s fu)
             (same_gap-back laws.cmp o g h s) (same_keys-back laws.cmp o js _ keys) (subst (λ ps. AreNewGaps laws local g js ps gaps) (same.2 ∙ beside) new),
       ))
   one_pays rounds g h (page_told c js ps) (rows_told ss) before after filled s same told taken = absurd same
@@ -107,7 +111,8 @@ module _ {K V H : Type 0} (laws : Laws K V H) (o : IsTotalOrder laws.cmp) (eqv :
   abbrev Told : Bool → OwnedGap K × Outline K V → Type 0
   Told with_pages u = IsTold laws.cmp peer.rows with_pages (items_over laws.cmp laws.bytes_of peer.tree u.0) u.1
 
-  all_pay : (rounds : ℕ) (ts us : List (OwnedGap K × Outline K V)) (before after : Found K V) → AllByRecursion (λ g. Filled rounds (owned_gap g)) (map (λ t. t.0) ts) → AllZip SameTold ts us → AllByRecursion (Told true) us
+  all_pay : (rounds : ℕ) (ts us : List (OwnedGap K × Outline K V)) (before after : Found K V) → AllByRecursion (λ g. Filled rounds (owned_gap g)) (map (λ t. t.0) ts)
+      → AllZip SameTold ts us → AllByRecursion (Told true) us
       → AreTaken laws local ts before after → pages_found after + length ts ≤ pages_found before + total (λ g. over_root (owned_gap g)) (map (λ t. t.0) ts)
   all_pay rounds [] us before after filled s told taken = omega (arith, ap pages_found taken)
   all_pay rounds (t ∷ ts) [] before after filled s told taken = absurd s
@@ -132,7 +137,8 @@ module _ {K V H : Type 0} (laws : Laws K V H) (o : IsTotalOrder laws.cmp) (eqv :
       by (rows_told rs) taken = omega (arith, ap nodes_found taken)
       by (digests_told ns) taken = omega (arith, ap nodes_found taken)
       by (page_told c js ps) (gaps, own, new, kept, taken) =
-          subst (λ f. nodes_found f ≤ nodes_found before + 1) (sym taken) (omega (arith, length-append before.nodes own, one_gap (owned_gap t.0) own (nodes_or_none laws local (owned_gap t.0) js c own kept)))
+          subst (λ f. nodes_found f ≤ nodes_found before + 1) (sym taken)
+          (omega (arith, length-append before.nodes own, one_gap (owned_gap t.0) own (nodes_or_none laws local (owned_gap t.0) js c own kept)))
 
   -- nodes alone leave what was found of pages and of nodes
   nodes_alone : (ts us : List (OwnedGap K × Outline K V)) (before after : Found K V) → AllZip SameTold ts us → AllByRecursion (Told false) us → AreTaken laws local ts before after
@@ -144,7 +150,8 @@ module _ {K V H : Type 0} (laws : Laws K V H) (o : IsTotalOrder laws.cmp) (eqv :
       let first = by t.1 u.1 s.0.1 told.0 one in
       (rest.0 ∙ first.0, rest.1 ∙ first.1)
     where
-      by : (x y : Outline K V) → SameOutline laws.cmp laws.eq x y → Told false (u.0, y) → IsTaken laws local (owned_gap t.0) x before mid → (pages_found mid ≡ pages_found before) × (nodes_found mid ≡ nodes_found before)
+      by : (x y : Outline K V) → SameOutline laws.cmp laws.eq x y → Told false (u.0, y) → IsTaken laws local (owned_gap t.0) x before mid
+          → (pages_found mid ≡ pages_found before) × (nodes_found mid ≡ nodes_found before)
       by (rows_told rs) y same told taken = (ap pages_found taken, ap nodes_found taken)
       by (digests_told ns) y same told taken = (ap pages_found taken, ap nodes_found taken)
       by (page_told c js ps) (page_told d ks qs) same told taken = let never : false ≡ true = told.0 in absurd (cc)
@@ -161,7 +168,8 @@ module _ {K V H : Type 0} (laws : Laws K V H) (o : IsTotalOrder laws.cmp) (eqv :
       let fills = lacked_filled laws o local format (one_digest format) is_there tells t up everywhere t (record { inside = itself t; some = tt; all = all_within laws.cmp (pairs t) }) in
       by is fills (which (is_there everywhere (page_digest format laws.bytes_of t)))
     where
-      by : page_digest format laws.bytes_of (page l c (node h k x r)) ≡ d → lacked_over laws.cmp format laws.bytes_of is_there (page l c (node h k x r)) everywhere ≡ lacked_pages format laws.bytes_of is_there everywhere (page l c (node h k x r))
+      by : page_digest format laws.bytes_of (page l c (node h k x r)) ≡ d → lacked_over laws.cmp format laws.bytes_of is_there
+          (page l c (node h k x r)) everywhere ≡ lacked_pages format laws.bytes_of is_there everywhere (page l c (node h k x r))
           → (is_there everywhere (page_digest format laws.bytes_of (page l c (node h k x r))) ≡ false) ⊎ (is_there everywhere (page_digest format laws.bytes_of (page l c (node h k x r))) ≡ true)
           → lacked_over laws.cmp format laws.bytes_of is_there (page l c (node h k x r)) everywhere ≤ lacked_of_tree format laws.bytes_of is_there (page l c (node h k x r))
       by is fills (inl not) = rw not (omega (arith, fills))
@@ -192,16 +200,19 @@ module _ {K V H : Type 0} (laws : Laws K V H) (o : IsTotalOrder laws.cmp) (eqv :
   )
 
   -- a reply is paid for
-  reply_pays : (digest_of : K → List ℕ) (u : Underway K V) (question : Question K) (reply : List ℕ) (after : Found K V) (again : Option (Question K)) → IsSteady laws (side peer) root u → SameQuestion laws.cmp encoding u.asked question
+  reply_pays : (digest_of : K → List ℕ) (u : Underway K V) (question : Question K) (reply : List ℕ) (after : Found K V) (again : Option (Question K))
+      → IsSteady laws (side peer) root u → SameQuestion laws.cmp encoding u.asked question
       → IsReply laws.cmp laws.bytes_of encoding values digest_of n peer.rows peer.tree question reply → (taken : HasTaken laws n encoding values local u.asked reply u.found after again)
-      → (pages_taken laws n encoding values local u.asked reply u.found after again taken + (again_of (pages_by laws (side peer) root is_there) again + pages_found after) ≤ pages_by laws (side peer) root is_there u.asked + pages_found u.found)
+      → (pages_taken laws n encoding values local u.asked reply u.found after again
+      taken + (again_of (pages_by laws (side peer) root is_there) again + pages_found after) ≤ pages_by laws (side peer) root is_there u.asked + pages_found u.found)
       × (nodes_taken laws n encoding values local u.asked reply u.found after again taken + (again_of (nodes_by laws (side peer) root is_there) again + nodes_found after)
       ≤ pages_taken laws n encoding values local u.asked reply u.found after again taken + (nodes_by laws (side peer) root is_there u.asked + nodes_found u.found))
   reply_pays digest_of u question reply after again s = by u.asked question s.asked
     where
       by : (asked question : Question K) → AsksForPages laws (side peer) root u.rounds asked → SameQuestion laws.cmp encoding asked question
           → IsReply laws.cmp laws.bytes_of encoding values digest_of n peer.rows peer.tree question reply → (taken : HasTaken laws n encoding values local asked reply u.found after again)
-          → (pages_taken laws n encoding values local asked reply u.found after again taken + (again_of (pages_by laws (side peer) root is_there) again + pages_found after) ≤ pages_by laws (side peer) root is_there asked + pages_found u.found)
+          → (pages_taken laws n encoding values local asked reply u.found after again
+          taken + (again_of (pages_by laws (side peer) root is_there) again + pages_found after) ≤ pages_by laws (side peer) root is_there asked + pages_found u.found)
           × (nodes_taken laws n encoding values local asked reply u.found after again taken + (again_of (nodes_by laws (side peer) root is_there) again + nodes_found after)
           ≤ pages_taken laws n encoding values local asked reply u.found after again taken + (nodes_by laws (side peer) root is_there asked + nodes_found u.found))
       by (Root a) (Root b) pages alike (settings, sent) (count, digest, read, taken, none) =
@@ -247,9 +258,12 @@ module _ {K V H : Type 0} (laws : Laws K V H) (o : IsTotalOrder laws.cmp) (eqv :
       by asked question pages alike is taken = absurd alike
 
   -- so is an exchange
-  pub exchange_pays : (digest_of : K → List ℕ) (before : Underway K V) (question : Question K) (reply : List ℕ) (next : Next K V) → IsSteady laws (side peer) root before → SameQuestion laws.cmp encoding before.asked question
+  pub exchange_pays : (digest_of : K → List ℕ) (before : Underway K V) (question : Question K) (reply : List ℕ) (next : Next K V) → IsSteady laws (side peer) root before
+      → SameQuestion laws.cmp encoding before.asked question
       → IsReply laws.cmp laws.bytes_of encoding values digest_of n peer.rows peer.tree question reply → (takes : IsNext laws n encoding values local before reply next)
-      → PayFor laws (side peer) root is_there (pages_taken laws n encoding values local before.asked reply before.found takes.0 takes.1 takes.2) (nodes_taken laws n encoding values local before.asked reply before.found takes.0 takes.1 takes.2) before next
+      → PayFor laws (side peer) root is_there (pages_taken laws n encoding values local before.asked reply before.found takes.0 takes.1 takes.2)
+      (nodes_taken laws n encoding values local before.asked reply before.found takes.0 takes.1 takes.2) before next
   exchange_pays digest_of before question reply next s alike is (found, again, taken, goes) =
       let (p, q) = reply_pays digest_of before question reply found again s alike is taken in
-      next_pays laws (side peer) root is_there encoding (pages_taken laws n encoding values local before.asked reply before.found found again taken) (nodes_taken laws n encoding values local before.asked reply before.found found again taken) before again before.rounds found next p q goes
+      next_pays laws (side peer) root is_there encoding (pages_taken laws n encoding values local before.asked reply before.found found again taken)
+      (nodes_taken laws n encoding values local before.asked reply before.found found again taken) before again before.rounds found next p q goes

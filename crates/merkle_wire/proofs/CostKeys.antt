@@ -58,14 +58,16 @@ module _ {K V H : Type 0} (laws : Laws K V H) (peer : Side K V H) (root : Tree K
   taken_at (Outlines most gaps) f after (is, e) =
       subst (λ x. asked_at (Outlines most gaps) + left_at x ≤ left_at f) (sym e) (omega (arith, ap (total (times_in laws.cmp k)) is, total-mapped (times_in laws.cmp k) owned_gap gaps.items))
   taken_at (Nodes most gaps) f after (is, e) =
-      subst (λ x. asked_at (Nodes most gaps) + left_at x ≤ left_at f) (sym e) (omega (arith, ap (total (times_over laws peer root k)) is, total-mapped (times_over laws peer root k) owned_gap gaps.items))
+      subst (λ x. asked_at (Nodes most gaps) + left_at x ≤ left_at f) (sym e)
+      (omega (arith, ap (total (times_over laws peer root k)) is, total-mapped (times_over laws peer root k) owned_gap gaps.items))
   taken_at (RowsAt keys) f after (is, e) =
       subst (λ x. asked_at (RowsAt keys) + left_at x ≤ left_at f) (sym e) (omega (arith, ap (total (times_at laws.cmp k)) is, total-mapped (times_at laws.cmp k) (λ w. w.key) keys.items))
   taken_at (RowsIn gaps) f after (is, e) =
       subst (λ x. asked_at (RowsIn gaps) + left_at x ≤ left_at f) (sym e) (omega (arith, ap (total (times_in laws.cmp k)) is, total-mapped (times_in laws.cmp k) owned_gap gaps.items))
 
   -- what is asked next
-  pub next_at : (encoding : K → List ℕ) (again : Option (Question K)) (rounds : ℕ) (f : Found K V) (session : Underway K V) (message : Vec ℕ) → AsksOrGoesOn laws.cmp encoding again rounds f (Ask session message)
+  pub next_at : (encoding : K → List ℕ) (again : Option (Question K)) (rounds : ℕ) (f : Found K V) (session : Underway K V) (message : Vec ℕ)
+      → AsksOrGoesOn laws.cmp encoding again rounds f (Ask session message)
       → asked_at session.asked + left_at session.found ≤ again_of asked_at again + left_at f
   next_at encoding None rounds f session message (asked, is, more) = by asked.1
     where
@@ -143,7 +145,8 @@ module _ {K V H : Type 0} (laws : Laws K V H) (n : ℕ) (encoding : K → List �
   told_at k (RowsIn gaps) reply before after again taken = 0
 
 module _ {K V H : Type 0} (laws : Laws K V H) (o : IsTotalOrder laws.cmp) (eqv : IsEquivalence laws.eq) (encoding : K → List ℕ) (values : V → List ℕ) (tell : Tell laws encoding values) (n : ℕ)
-    (local : Side K V H) (peer : Contents K V H) (root : Tree K (List ℕ)) (sides : AreSides laws local (side peer) root peer.tree.root) (small : AllByRecursion (λ p. length p.1 ≡ n) (tree_map laws (side peer))) where
+    (local : Side K V H) (peer : Contents K V H) (root : Tree K (List ℕ)) (sides : AreSides laws local (side peer) root peer.tree.root)
+    (small : AllByRecursion (λ p. length p.1 ≡ n) (tree_map laws (side peer))) where
   -- rows that were found stay
   rows_more : (asked : Question K) (reply : List ℕ) (before after : Found K V) (again : Option (Question K)) (k : K) → HasTaken laws n encoding values local asked reply before after again
       → total (λ r. times_at laws.cmp k r.0) before.rows ≤ total (λ r. times_at laws.cmp k r.0) after.rows
@@ -152,9 +155,11 @@ module _ {K V H : Type 0} (laws : Laws K V H) (o : IsTotalOrder laws.cmp) (eqv :
       omega (arith, ap (total (λ r. times_at laws.cmp k r.0)) is, total-append (λ (r : K × V). times_at laws.cmp k r.0) before.rows new)
 
   -- a key that was told is told no more
-  pub reply_at : (k : K) (digest_of : K → List ℕ) (asked question : Question K) (reply : List ℕ) (before after : Found K V) (again : Option (Question K)) → SameQuestion laws.cmp encoding asked question
+  pub reply_at : (k : K) (digest_of : K → List ℕ) (asked question : Question K) (reply : List ℕ) (before after : Found K V) (again : Option (Question K))
+      → SameQuestion laws.cmp encoding asked question
       → IsReply laws.cmp laws.bytes_of encoding values digest_of n peer.rows peer.tree question reply → (taken : HasTaken laws n encoding values local asked reply before after again)
-      → told_at laws n encoding values local k asked reply before after again taken + (again_of (asked_at laws (side peer) root k) again + left_at laws (side peer) root k after) ≤ asked_at laws (side peer) root k asked + left_at laws (side peer) root k before
+      → told_at laws n encoding values local k asked reply before after again
+      taken + (again_of (asked_at laws (side peer) root k) again + left_at laws (side peer) root k after) ≤ asked_at laws (side peer) root k asked + left_at laws (side peer) root k before
   reply_at k digest_of (Root a) (Root b) reply before after again alike is (count, digest, read, taken, none) =
       omega (
         arith,
@@ -209,11 +214,13 @@ module _ {K V H : Type 0} (laws : Laws K V H) (o : IsTotalOrder laws.cmp) (eqv :
       )
   reply_at k digest_of asked question reply before after again alike is taken = absurd alike
 
-  lacked_there : (m : List (K × List ℕ)) (k : K) (d : List ℕ) → get laws.cmp m k ≡ Some d → not (has_digest laws local k d) ≡ true → AnyByRecursion (λ p. Same laws.cmp k p.0) (filter (λ p. not (has_digest laws local p.0 p.1)) m)
+  lacked_there : (m : List (K × List ℕ)) (k : K) (d : List ℕ) → get laws.cmp m k ≡ Some d → not (has_digest laws local k d) ≡ true
+      → AnyByRecursion (λ p. Same laws.cmp k p.0) (filter (λ p. not (has_digest laws local p.0 p.1)) m)
   lacked_there [] k d e lacks = absurd (cc)
   lacked_there (p ∷ ps) k d e lacks = go (which (is_eq (laws.cmp p.0 k))) (lacked_there ps k d)
     where
-      later : (not (has_digest laws local p.0 p.1) ≡ false) ⊎ (not (has_digest laws local p.0 p.1) ≡ true) → AnyByRecursion (λ q. Same laws.cmp k q.0) (filter (λ q. not (has_digest laws local q.0 q.1)) ps)
+      later : (not (has_digest laws local p.0 p.1) ≡ false) ⊎ (not (has_digest laws local p.0 p.1) ≡ true)
+          → AnyByRecursion (λ q. Same laws.cmp k q.0) (filter (λ q. not (has_digest laws local q.0 q.1)) ps)
           → AnyByRecursion (λ q. Same laws.cmp k q.0) (filter (λ q. not (has_digest laws local q.0 q.1)) (p ∷ ps))
       later (inl n) a = rw n a
       later (inr n) a = rw n (inr a)
@@ -240,26 +247,31 @@ module _ {K V H : Type 0} (laws : Laws K V H) (o : IsTotalOrder laws.cmp) (eqv :
   new_lacked_keys nodes a =
       let test : K × List ℕ → Bool = λ m. not (has_digest laws local m.0 m.1) in
       each-mapped (λ m. m.0) Lacked (filter test nodes)
-      (each-both (λ m. get laws.cmp (tree_map laws (side peer)) m.0 ≡ Some m.1) (λ m. test m ≡ true) (λ m. Lacked m.0) (filter test nodes) (λ m e t. lacked_there (tree_map laws (side peer)) m.0 m.1 e t)
+      (each-both (λ m. get laws.cmp (tree_map laws (side peer)) m.0 ≡ Some m.1) (λ m. test m ≡ true) (λ m. Lacked m.0) (filter test nodes)
+      (λ m e t. lacked_there (tree_map laws (side peer)) m.0 m.1 e t)
       (each-filter (λ m. get laws.cmp (tree_map laws (side peer)) m.0 ≡ Some m.1) test nodes a) (all-filter test nodes))
 
-  outlines_want : (with_pages : Bool) (ts us : List (OwnedGap K × Outline K V)) (before after : Found K V) → AllZip (λ t u. SameGapTold laws.cmp encoding t.0 u.0 × SameOutline laws.cmp laws.eq t.1 u.1) ts us
+  outlines_want : (with_pages : Bool) (ts us : List (OwnedGap K × Outline K V)) (before after : Found K V)
+      → AllZip (λ t u. SameGapTold laws.cmp encoding t.0 u.0 × SameOutline laws.cmp laws.eq t.1 u.1) ts us
       → AllByRecursion (λ u. IsTold laws.cmp peer.rows with_pages (items_over laws.cmp laws.bytes_of peer.tree u.0) u.1) us → AreTaken laws local ts before after → Wanting before → Wanting after
   outlines_want with_pages [] us before after s told taken a = subst Wanting (sym taken) a
   outlines_want with_pages (t ∷ ts) [] before after s told taken a = absurd s
   outlines_want with_pages (t ∷ ts) (u ∷ us) before after s told (mid, one, more) a = outlines_want with_pages ts us mid after s.1 told.1 more (by t.1 u.1 s.0.1 told.0 one)
     where
-      by : (x y : Outline K V) → SameOutline laws.cmp laws.eq x y → IsTold laws.cmp peer.rows with_pages (items_over laws.cmp laws.bytes_of peer.tree u.0) y → IsTaken laws local (owned_gap t.0) x before mid → Wanting mid
+      by : (x y : Outline K V) → SameOutline laws.cmp laws.eq x y → IsTold laws.cmp peer.rows with_pages (items_over laws.cmp laws.bytes_of peer.tree u.0) y
+          → IsTaken laws local (owned_gap t.0) x before mid → Wanting mid
       by (rows_told rs) y same is taken = subst Wanting (sym taken) a
       by (digests_told ns) (digests_told ms) same (none, is) taken =
           subst Wanting (sym taken)
           (each-append Lacked before.wanted (new_keys laws local ns) a
-          (new_lacked_keys ns (same_nodes laws o eqv local (side peer) root peer.tree.root sides ns ms same (subst (AllByRecursion (λ m. get laws.cmp (tree_map laws (side peer)) m.0 ≡ Some m.1)) (sym is) (nodes_peers laws o eqv local (side peer) root peer.tree.root sides (owned_gap u.0))))))
+          (new_lacked_keys ns (same_nodes laws o eqv local (side peer) root peer.tree.root sides ns ms same
+          (subst (AllByRecursion (λ m. get laws.cmp (tree_map laws (side peer)) m.0 ≡ Some m.1)) (sym is) (nodes_peers laws o eqv local (side peer) root peer.tree.root sides (owned_gap u.0))))))
       by (digests_told ns) (rows_told rs) same is taken = absurd same
       by (digests_told ns) (page_told d ks qs) same is taken = absurd same
       by (page_told c js ps) y same is (gaps, own, new, kept, taken) = subst Wanting (sym taken) a
 
-  again_all : {X : Type 0} (ask : Vec X → Question K) (left : List X) (again : Option (Question K)) → ((xs : Vec X) → AsksLacked laws local (side peer) (ask xs)) → AsksAgain ask left again → AsksLackedAgain laws local (side peer) again
+  again_all : {X : Type 0} (ask : Vec X → Question K) (left : List X) (again : Option (Question K)) → ((xs : Vec X) → AsksLacked laws local (side peer) (ask xs))
+      → AsksAgain ask left again → AsksLackedAgain laws local (side peer) again
   again_all ask left again all (inl (none, e)) = subst (AsksLackedAgain laws local (side peer)) (sym e) tt
   again_all ask left again all (inr (rest, is, some, e)) = subst (AsksLackedAgain laws local (side peer)) (sym e) (all rest)
 
@@ -268,11 +280,14 @@ module _ {K V H : Type 0} (laws : Laws K V H) (o : IsTotalOrder laws.cmp) (eqv :
   again_keys left again a (inr (rest, is, some, e)) = subst (AsksLackedAgain laws local (side peer)) (sym e) (subst (AllByRecursion (λ w. Lacked w.key)) (sym is) a)
 
   -- what is taken of a reply keeps to such keys, and so do those at which it told values
-  reply_wants : (digest_of : K → List ℕ) (asked question : Question K) (reply : List ℕ) (before after : Found K V) (again : Option (Question K)) → Wanting before → AsksLacked laws local (side peer) asked → SameQuestion laws.cmp encoding asked question
+  reply_wants : (digest_of : K → List ℕ) (asked question : Question K) (reply : List ℕ) (before after : Found K V) (again : Option (Question K)) → Wanting before
+      → AsksLacked laws local (side peer) asked → SameQuestion laws.cmp encoding asked question
       → IsReply laws.cmp laws.bytes_of encoding values digest_of n peer.rows peer.tree question reply → (taken : HasTaken laws n encoding values local asked reply before after again)
       → Wanting after × AsksLackedAgain laws local (side peer) again
-      × (keys_taken laws n encoding values local asked reply before after again taken ≤ total (λ p. told_at laws n encoding values local p.0 asked reply before after again taken) (lacked laws local (side peer)))
-  reply_wants digest_of (Root a) (Root b) reply before after again w l alike is (count, digest, read, taken, none) = (by digest taken, subst (AsksLackedAgain laws local (side peer)) (sym none) tt, omega arith)
+      × (keys_taken laws n encoding values local asked reply before after again taken ≤ total
+      (λ p. told_at laws n encoding values local p.0 asked reply before after again taken) (lacked laws local (side peer)))
+  reply_wants digest_of (Root a) (Root b) reply before after again w l alike is (count, digest, read, taken, none) =
+      (by digest taken, subst (AsksLackedAgain laws local (side peer)) (sym none) tt, omega arith)
     where
       by : (d : Option (List ℕ)) → IsRootTaken laws local d before after → Wanting after
       by None e = subst Wanting (sym e) w
@@ -300,24 +315,30 @@ module _ {K V H : Type 0} (laws : Laws K V H) (o : IsTotalOrder laws.cmp) (eqv :
   reply_wants digest_of asked question reply before after again w l alike is taken = absurd alike
 
   -- an exchange
-  pub exchange_pays_for_keys : (digest_of : K → List ℕ) (before : Underway K V) (question : Question K) (reply : List ℕ) (next : Next K V) → Wanting before.found → AsksLacked laws local (side peer) before.asked → SameQuestion laws.cmp encoding before.asked question
+  pub exchange_pays_for_keys : (digest_of : K → List ℕ) (before : Underway K V) (question : Question K) (reply : List ℕ) (next : Next K V) → Wanting before.found
+      → AsksLacked laws local (side peer) before.asked → SameQuestion laws.cmp encoding before.asked question
       → IsReply laws.cmp laws.bytes_of encoding values digest_of n peer.rows peer.tree question reply → (takes : IsNext laws n encoding values local before reply next)
       → PayForKeys laws local (side peer) root (keys_taken laws n encoding values local before.asked reply before.found takes.0 takes.1 takes.2) before next
   exchange_pays_for_keys digest_of before question reply next w l alike is (found, again, taken, goes) = by next goes
     where
       wants : Wanting found × AsksLackedAgain laws local (side peer) again
-          × (keys_taken laws n encoding values local before.asked reply before.found found again taken ≤ total (λ p. told_at laws n encoding values local p.0 before.asked reply before.found found again taken) (lacked laws local (side peer)))
+          × (keys_taken laws n encoding values local before.asked reply before.found found again taken ≤ total
+          (λ p. told_at laws n encoding values local p.0 before.asked reply before.found found again taken) (lacked laws local (side peer)))
       wants = reply_wants digest_of before.asked question reply before.found found again w l alike is taken
 
-      at : (p : K × List ℕ) → told_at laws n encoding values local p.0 before.asked reply before.found found again taken + (again_of (asked_at laws (side peer) root p.0) again + left_at laws (side peer) root p.0 found) ≤ asked_at laws (side peer) root p.0 before.asked + left_at laws (side peer) root p.0 before.found
+      at : (p : K × List ℕ) → told_at laws n encoding values local p.0 before.asked reply before.found found again
+          taken + (again_of (asked_at laws (side peer) root p.0) again + left_at laws (side peer) root p.0 found) ≤ asked_at laws
+          (side peer) root p.0 before.asked + left_at laws (side peer) root p.0 before.found
       at p = reply_at p.0 digest_of before.asked question reply before.found found again alike is taken
 
-      by : (next : Next K V) → AsksOrGoesOn laws.cmp encoding again before.rounds found next → PayForKeys laws local (side peer) root (keys_taken laws n encoding values local before.asked reply before.found found again taken) before next
+      by : (next : Next K V) → AsksOrGoesOn laws.cmp encoding again before.rounds found next
+          → PayForKeys laws local (side peer) root (keys_taken laws n encoding values local before.asked reply before.found found again taken) before next
       by (Came rows) g =
           omega (
             arith,
             wants.2,
-            total-less (λ (p : K × List ℕ). told_at laws n encoding values local p.0 before.asked reply before.found found again taken) (λ p. asked_at laws (side peer) root p.0 before.asked + left_at laws (side peer) root p.0 before.found)
+            total-less (λ (p : K × List ℕ). told_at laws n encoding values local p.0 before.asked reply before.found found again taken)
+                (λ p. asked_at laws (side peer) root p.0 before.asked + left_at laws (side peer) root p.0 before.found)
                 (λ p. omega (arith, at p)) (lacked laws local (side peer)),
           )
       by (Ask session message) g =
@@ -325,9 +346,12 @@ module _ {K V H : Type 0} (laws : Laws K V H) (o : IsTotalOrder laws.cmp) (eqv :
             omega (
               arith,
               wants.2,
-              total-plus (λ (p : K × List ℕ). told_at laws n encoding values local p.0 before.asked reply before.found found again taken) (λ p. asked_at laws (side peer) root p.0 session.asked + left_at laws (side peer) root p.0 session.found) (lacked laws local (side peer)),
-              total-less (λ (p : K × List ℕ). told_at laws n encoding values local p.0 before.asked reply before.found found again taken + (asked_at laws (side peer) root p.0 session.asked + left_at laws (side peer) root p.0 session.found))
-                  (λ p. asked_at laws (side peer) root p.0 before.asked + left_at laws (side peer) root p.0 before.found) (λ p. omega (arith, at p, next_at laws (side peer) root p.0 encoding again before.rounds found session message g)) (lacked laws local (side peer)),
+              total-plus (λ (p : K × List ℕ). told_at laws n encoding values local p.0 before.asked reply before.found found again taken)
+                  (λ p. asked_at laws (side peer) root p.0 session.asked + left_at laws (side peer) root p.0 session.found) (lacked laws local (side peer)),
+              total-less (λ (p : K × List ℕ). told_at laws n encoding values local p.0 before.asked reply before.found found again
+                  taken + (asked_at laws (side peer) root p.0 session.asked + left_at laws (side peer) root p.0 session.found))
+                  (λ p. asked_at laws (side peer) root p.0 before.asked + left_at laws (side peer) root p.0 before.found)
+                  (λ p. omega (arith, at p, next_at laws (side peer) root p.0 encoding again before.rounds found session message g)) (lacked laws local (side peer)),
             ),
             kept.0,
             kept.1,

@@ -25,7 +25,8 @@ abbrev pub again_of : {K : Type 0} → (Question K → ℕ) → Option (Question
 again_of by None = 0
 again_of by (Some question) = by question
 
-pub again_weighs : {K X : Type 0} (by : Question K → ℕ) (ask : Vec X → Question K) (weight : List X → ℕ) (left : List X) (again : Option (Question K)) → ((xs : Vec X) → by (ask xs) ≡ weight xs.items) → AsksAgain ask left again
+pub again_weighs : {K X : Type 0} (by : Question K → ℕ) (ask : Vec X → Question K) (weight : List X → ℕ) (left : List X) (again : Option (Question K))
+    → ((xs : Vec X) → by (ask xs) ≡ weight xs.items) → AsksAgain ask left again
     → again_of by again ≤ weight left
 again_weighs by ask weight left again is (inl (none, e)) = omega (arith, ap (again_of by) e)
 again_weighs by ask weight left again is (inr (rest, items, some, e)) = omega (arith, ap (again_of by) e, is rest, ap weight items)
@@ -78,7 +79,8 @@ module _ {K V H : Type 0} (laws : Laws K V H) (peer : Side K V H) (root : Tree K
 
   -- what is asked next
   pub next_pays : (encoding : K → List ℕ) (pages nodes : ℕ) (before : Underway K V) (again : Option (Question K)) (rounds : ℕ) (f : Found K V) (next : Next K V)
-      → pages + (again_of pages_by again + pages_of f) ≤ pages_by before.asked + pages_of before.found → nodes + (again_of nodes_by again + nodes_of f) ≤ pages + (nodes_by before.asked + nodes_of before.found)
+      → pages + (again_of pages_by again + pages_of f) ≤ pages_by before.asked + pages_of before.found
+      → nodes + (again_of nodes_by again + nodes_of f) ≤ pages + (nodes_by before.asked + nodes_of before.found)
       → AsksOrGoesOn laws.cmp encoding again rounds f next → PayFor pages nodes before next
   next_pays encoding pages nodes before again rounds f (Came rows) p q goes = (omega (arith, p), omega (arith, q))
   next_pays encoding pages nodes before None rounds f (Ask session message) p q (asked, is, more) = by asked.1

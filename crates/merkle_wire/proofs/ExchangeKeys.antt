@@ -22,7 +22,7 @@ use Rattle.merkle_wire.specs.Messages.{front}
 use Rattle.merkle_wire.specs.Next.{AsksOrGoesOn, IsNext}
 use Rattle.merkle_wire.specs.Outlines.{Outline, IsTold, nodes_among}
 use Rattle.merkle_wire.specs.Questions.{AsksNothing, IsQuestion, question_bytes}
-use Rattle.merkle_wire.specs.Replies.{Answers, IsPartOf, IsReply, Part, items_over, outlines_bytes, parts_bytes}
+use Rattle.merkle_wire.specs.Replies.{TellsFirst, IsPartOf, IsReply, Part, items_over, outlines_bytes, parts_bytes}
 use Rattle.merkle_wire.specs.Sessions.{IsRowOfPeer}
 use Rattle.merkle_wire.specs.Steady.{AreKeysOf, CanBeTold, HasKeysNext, HasKeysOfSides, IsKeyOf, IsKeyOfSides}
 use Rattle.merkle_wire.specs.Taking.{new_rows, value_row}
@@ -88,7 +88,8 @@ module _ {K V H : Type 0} (laws : Laws K V H) (local peer : Side K V H) where
   }
 
   -- the message of a catch-up at keys of sides whose rows can be told asks something
-  pub asks_something : (is_key : K → Type 0) (is_value : V → Type 0) (encoding : K → List ℕ) (u : Underway K V) (message : List ℕ) → HasKeysOfSides laws local peer u → CanBeTold laws is_key is_value local → CanBeTold laws is_key is_value peer
+  pub asks_something : (is_key : K → Type 0) (is_value : V → Type 0) (encoding : K → List ℕ) (u : Underway K V) (message : List ℕ) → HasKeysOfSides laws local peer u
+      → CanBeTold laws is_key is_value local → CanBeTold laws is_key is_value peer
       → message ≡ question_bytes encoding u.asked → AsksNothing encoding is_key message → ⊥
   asks_something is_key is_value encoding u message keys own theirs is none =
       none u.asked (question_read (IsKeyOfSides laws local peer) is_key to u.asked keys.asked) is
@@ -98,7 +99,8 @@ module _ {K V H : Type 0} (laws : Laws K V H) (local peer : Side K V H) where
       to k (inr (v, there)) = (theirs.read k v there).0
 
 module _ {K V H : Type 0} (laws : Laws K V H) (o : IsTotalOrder laws.cmp) (eqv : IsEquivalence laws.eq) (encoding : K → List ℕ) (values : V → List ℕ) (tell : Tell laws encoding values) (n : ℕ)
-    (local : Side K V H) (peer : Contents K V H) (root : Tree K (List ℕ)) (sides : AreSides laws local (side peer) root peer.tree.root) (small : AllByRecursion (λ p. length p.1 ≡ n) (tree_map laws (side peer))) where
+    (local : Side K V H) (peer : Contents K V H) (root : Tree K (List ℕ)) (sides : AreSides laws local (side peer) root peer.tree.root)
+    (small : AllByRecursion (λ p. length p.1 ≡ n) (tree_map laws (side peer))) where
   abbrev IsKey : K → Type 0
   IsKey = IsKeyOfSides laws local (side peer)
 
@@ -117,21 +119,25 @@ module _ {K V H : Type 0} (laws : Laws K V H) (o : IsTotalOrder laws.cmp) (eqv :
 
   nodes_keys : (g : OwnedGap K) → AllByRecursion (λ m. IsKey m.0) (nodes_among (items_over laws.cmp laws.bytes_of peer.tree g))
   nodes_keys g =
-      each-with (λ m. get laws.cmp (tree_map laws (side peer)) m.0 ≡ Some m.1) (λ m. IsKey m.0) (nodes_among (items_over laws.cmp laws.bytes_of peer.tree g)) (λ m e. inr (of_tree laws o local (side peer) m.0 m.1 e))
+      each-with (λ m. get laws.cmp (tree_map laws (side peer)) m.0 ≡ Some m.1) (λ m. IsKey m.0) (nodes_among (items_over laws.cmp laws.bytes_of peer.tree g))
+      (λ m e. inr (of_tree laws o local (side peer) m.0 m.1 e))
       (nodes_peers laws o eqv local (side peer) root peer.tree.root sides (owned_gap g))
 
-  again_keys : {X : Type 0} (ask : Vec X → Question K) (F : X → Type 0) (left : List X) (again : Option (Question K)) → ((xs : Vec X) → AllByRecursion F xs.items → IsQuestion IsKey (ask xs)) → AsksAgain ask left again → AllByRecursion F left → IsAgain again
+  again_keys : {X : Type 0} (ask : Vec X → Question K) (F : X → Type 0) (left : List X) (again : Option (Question K))
+      → ((xs : Vec X) → AllByRecursion F xs.items → IsQuestion IsKey (ask xs)) → AsksAgain ask left again → AllByRecursion F left → IsAgain again
   again_keys ask F left again reads (inl (none, e)) a = subst IsAgain (sym e) tt
   again_keys ask F left again reads (inr (rest, is, some, e)) a = subst IsAgain (sym e) (reads rest (subst (AllByRecursion F) (sym is) a))
 
-  outlines_next : (with_pages : Bool) (kind : Kind) (ask : Vec (OwnedGap K) → Question K) (gaps gaps' left : List (OwnedGap K)) (reply : List ℕ) (before after : Found K V) (again : Option (Question K)) (told' : List (OwnedGap K × Outline K V))
+  outlines_next : (with_pages : Bool) (kind : Kind) (ask : Vec (OwnedGap K) → Question K) (gaps gaps' left : List (OwnedGap K)) (reply : List ℕ)
+      (before after : Found K V) (again : Option (Question K)) (told' : List (OwnedGap K × Outline K V))
       → ((xs : Vec (OwnedGap K)) → Gaps xs.items → IsQuestion IsKey (ask xs)) → Gaps gaps → Keys before → AllZip (SameGapTold laws.cmp encoding) gaps gaps'
-      → Answers (λ g. IsTold laws.cmp peer.rows with_pages (items_over laws.cmp laws.bytes_of peer.tree g)) gaps' told' → reply ≡ front kind ++ outlines_bytes encoding values told'
+      → TellsFirst (λ g. IsTold laws.cmp peer.rows with_pages (items_over laws.cmp laws.bytes_of peer.tree g)) gaps' told' → reply ≡ front kind ++ outlines_bytes encoding values told'
       → HasOutlines laws n encoding values local (front kind) gaps reply before after left → AsksAgain ask left again → IsAgain again × Keys after
   outlines_next with_pages kind ask gaps gaps' left reply before after again told' reads a keys alike answers sent (told, read, some, are, lies, taken) asks =
       let bytes = (join_tells (front kind) (front kind) (outlines_bytes encoding values told) (outlines_bytes encoding values told') refl (sym read ∙ sent)).1 in
       let lists = outlines_tell laws.cmp laws.eq encoding values tell.keys tell.value (SameGapTold laws.cmp encoding) (λ g h e. e.1) n told told' left answers.left
-      (same_begin laws o eqv encoding values tell n local peer root sides small (SameGapTold laws.cmp encoding) gaps gaps' told told' left answers.left alike are answers.begins) (fits_read laws local n told before after lies taken)
+      (same_begin laws o eqv encoding values tell n local peer root sides small
+      (SameGapTold laws.cmp encoding) gaps gaps' told told' left answers.left alike are answers.begins) (fits_read laws local n told before after lies taken)
       (sent_fits laws o eqv encoding values tell n local peer root sides small with_pages told' answers.each) bytes in
       let all = subst Gaps are a in (
         again_keys ask (λ g. HasKeyBounds IsKey (owned_gap g)) left again reads asks (each-behind (λ g. HasKeyBounds IsKey (owned_gap g)) (map (λ t. t.0) told) left all),
@@ -139,13 +145,15 @@ module _ {K V H : Type 0} (laws : Laws K V H) (o : IsTotalOrder laws.cmp) (eqv :
             (each-before (λ g. HasKeyBounds IsKey (owned_gap g)) (map (λ t. t.0) told) left all) lists answers.each taken keys,
       )
 
-  parts_next : (gaps gaps' left : List (OwnedGap K)) (reply : List ℕ) (before after : Found K V) (again : Option (Question K)) (told' : List (OwnedGap K × Part K V)) → Gaps gaps → Keys before → AllZip (SameGapTold laws.cmp encoding) gaps gaps'
-      → Answers (IsPartOf laws.cmp peer.rows) gaps' told' → reply ≡ front rows_in_kind ++ parts_bytes encoding values told'
+  parts_next : (gaps gaps' left : List (OwnedGap K)) (reply : List ℕ) (before after : Found K V) (again : Option (Question K)) (told' : List (OwnedGap K × Part K V))
+      → Gaps gaps → Keys before → AllZip (SameGapTold laws.cmp encoding) gaps gaps'
+      → TellsFirst (IsPartOf laws.cmp peer.rows) gaps' told' → reply ≡ front rows_in_kind ++ parts_bytes encoding values told'
       → HasParts laws n encoding values local gaps reply before after left → AsksAgain RowsIn left again → IsAgain again × Keys after
   parts_next gaps gaps' left reply before after again told' a keys alike answers sent (told, behind, rest, read, some, are, up, are_behind, is_left, taken) asks =
       let bytes = (join_tells (front rows_in_kind) (front rows_in_kind) (parts_bytes encoding values told) (parts_bytes encoding values told') refl (sym read ∙ sent)).1 in
       let lists = parts_tell laws.cmp laws.eq encoding values tell.keys tell.value (SameGapTold laws.cmp encoding) (λ g h e. e.1) told told' rest answers.left
-      (same_begin laws o eqv encoding values tell n local peer root sides small (SameGapTold laws.cmp encoding) gaps gaps' told told' rest answers.left alike are answers.begins) (each-all (λ t. ⊤) told (λ t. tt)) (each-all (λ t. ⊤) told' (λ t. tt)) bytes in
+      (same_begin laws o eqv encoding values tell n local peer root sides small
+      (SameGapTold laws.cmp encoding) gaps gaps' told told' rest answers.left alike are answers.begins) (each-all (λ t. ⊤) told (λ t. tt)) (each-all (λ t. ⊤) told' (λ t. tt)) bytes in
       let rows = flat_map (λ (t : OwnedGap K × Part K V). t.1.rows) told in
       let theirs = parts_theirs laws o eqv local (side peer) root peer.tree.root sides (SameGapTold laws.cmp encoding) (λ g h e. e.0) told told' lists answers.each in
       let row_keys = each-with (IsRowOfPeer laws local (side peer)) (λ r. IsKey r.0) rows (λ r (v, there, e). inr (v, there)) theirs in
@@ -156,9 +164,12 @@ module _ {K V H : Type 0} (laws : Laws K V H) (o : IsTotalOrder laws.cmp) (eqv :
         rows_keys laws o IsKey same local before after (new_rows laws local rows) taken keys,
       )
 
-  taken_next : (digest_of : K → List ℕ) (asked question : Question K) (reply : List ℕ) (before after : Found K V) (again : Option (Question K)) → IsQuestion IsKey asked → Keys before → SameQuestion laws.cmp encoding asked question
-      → IsReply laws.cmp laws.bytes_of encoding values digest_of n peer.rows peer.tree question reply → HasTaken laws n encoding values local asked reply before after again → IsAgain again × Keys after
-  taken_next digest_of (Root a) (Root b) reply before after again q keys alike is (count, digest, read, taken, none) = (subst IsAgain (sym none) tt, root_keys laws o IsKey same local digest before after taken keys)
+  taken_next : (digest_of : K → List ℕ) (asked question : Question K) (reply : List ℕ) (before after : Found K V) (again : Option (Question K)) → IsQuestion IsKey asked
+      → Keys before → SameQuestion laws.cmp encoding asked question
+      → IsReply laws.cmp laws.bytes_of encoding values digest_of n peer.rows peer.tree question reply
+      → HasTaken laws n encoding values local asked reply before after again → IsAgain again × Keys after
+  taken_next digest_of (Root a) (Root b) reply before after again q keys alike is (count, digest, read, taken, none) =
+      (subst IsAgain (sym none) tt, root_keys laws o IsKey same local digest before after taken keys)
   taken_next digest_of (Outlines m gs) (Outlines m' hs) reply before after again q keys alike (told', answers, sent) (left, has, asks) =
       outlines_next _ outlines_kind (Outlines m) gs.items hs.items left reply before after again told' (λ xs a. (q.0, a)) q.1 keys alike answers sent has asks
   taken_next digest_of (Nodes m gs) (Nodes m' hs) reply before after again q keys alike (told', answers, sent) (left, has, asks) =
@@ -171,17 +182,20 @@ module _ {K V H : Type 0} (laws : Laws K V H) (o : IsTotalOrder laws.cmp) (eqv :
       parts_next gs.items hs.items left reply before after again told' q keys alike answers sent has asks
   taken_next digest_of asked question reply before after again q keys alike is taken = absurd alike
 
-  goes_on_keys : (again : Option (Question K)) (rounds : ℕ) (found : Found K V) (next : Next K V) → IsAgain again → Keys found → AsksOrGoesOn laws.cmp encoding again rounds found next → HasKeysNext laws local (side peer) next
+  goes_on_keys : (again : Option (Question K)) (rounds : ℕ) (found : Found K V) (next : Next K V) → IsAgain again → Keys found
+      → AsksOrGoesOn laws.cmp encoding again rounds found next → HasKeysNext laws local (side peer) next
   goes_on_keys again rounds found (Came rows) a keys goes = tt
   goes_on_keys None rounds found (Ask session message) a keys (asked, is, more) = by asked.1
     where
       by : IsTakenFrom session.asked found session.found ⊎ IsTakenFrom session.asked (all_whole found) session.found → HasKeysOfSides laws local (side peer) session
       by (inl t) = let (q, f) = taken_keys laws o IsKey same local session.asked found session.found asked.0 keys t in record { asked = q; found = f }
-      by (inr t) = let (q, f) = taken_keys laws o IsKey same local session.asked (all_whole found) session.found asked.0 (whole_keys laws o IsKey same local found keys) t in record { asked = q; found = f }
+      by (inr t) = let (q, f) = taken_keys laws o IsKey same local session.asked (all_whole found) session.found asked.0
+          (whole_keys laws o IsKey same local found keys) t in record { asked = q; found = f }
   goes_on_keys (Some question) rounds found (Ask session message) a keys (is, e) = subst (HasKeysOfSides laws local (side peer)) (sym e) (record { asked = a; found = keys })
 
   -- what comes next has keys of the two sides alone
-  pub next_keys : (digest_of : K → List ℕ) (before : Underway K V) (question : Question K) (reply : List ℕ) (next : Next K V) → HasKeysOfSides laws local (side peer) before → SameQuestion laws.cmp encoding before.asked question
+  pub next_keys : (digest_of : K → List ℕ) (before : Underway K V) (question : Question K) (reply : List ℕ) (next : Next K V)
+      → HasKeysOfSides laws local (side peer) before → SameQuestion laws.cmp encoding before.asked question
       → IsReply laws.cmp laws.bytes_of encoding values digest_of n peer.rows peer.tree question reply → IsNext laws n encoding values local before reply next → HasKeysNext laws local (side peer) next
   next_keys digest_of before question reply next keys alike is (found, again, taken, goes) =
       let (a, f) = taken_next digest_of before.asked question reply before.found found again keys.asked keys.found alike is taken in

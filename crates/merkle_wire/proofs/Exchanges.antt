@@ -24,7 +24,7 @@ use Rattle.merkle_wire.specs.Found.{Found}
 use Rattle.merkle_wire.specs.Gaps.{owned_gap}
 use Rattle.merkle_wire.specs.Messages.{front}
 use Rattle.merkle_wire.specs.Outlines.{Outline, IsTold, nodes_among}
-use Rattle.merkle_wire.specs.Replies.{Answers, Part, IsReply, IsPartOf, items_over, outlines_bytes, parts_bytes, values_bytes, whole_digest}
+use Rattle.merkle_wire.specs.Replies.{TellsFirst, Part, IsReply, IsPartOf, items_over, outlines_bytes, parts_bytes, values_bytes, whole_digest}
 use Rattle.merkle_wire.specs.Sessions.{IsFaithfulSession, IsAmong, AsksAbout, IsRowOfPeer, IsNewRow}
 use Rattle.merkle_wire.specs.Taking.{IsRootTaken, new_rows, value_row}
 use Rattle.merkle_wire.specs.Underway.{AsksAgain, HasOutlines, HasValues, HasParts, HasTaken}
@@ -52,16 +52,19 @@ pub key_tells : {K : Type 0} (cmp : K → K → Ordering) (encoding : K → List
 key_tells cmp encoding eq matches told x y e = eq_same cmp eq matches x y (told x y [] [] (ap (λ t. t ++ []) e)).0
 
 pub tells : {K V H : Type 0} (laws : Laws K V H) (encoding : K → List ℕ) (values : V → List ℕ) (eq : K → K → Bool) → ((a b : K) → eq a b ≡ is_eq (laws.cmp a b))
-    → ((x y : K) (r s : List ℕ) → encoding x ++ r ≡ encoding y ++ s → (eq x y ≡ true) × (r ≡ s)) → ((x y : V) (r s : List ℕ) → values x ++ r ≡ values y ++ s → (laws.eq x y ≡ true) × (r ≡ s)) → Tell laws encoding values
+    → ((x y : K) (r s : List ℕ) → encoding x ++ r ≡ encoding y ++ s → (eq x y ≡ true) × (r ≡ s))
+    → ((x y : V) (r s : List ℕ) → values x ++ r ≡ values y ++ s → (laws.eq x y ≡ true) × (r ≡ s)) → Tell laws encoding values
 tells laws encoding values eq matches told told_value = record { keys = key_tells laws.cmp encoding eq matches told; value = told_value }
 
 -- what is asked again has what is left
-again_asks : {K X : Type 0} (P : X → Type 0) (ask : Vec X → Question K) (left : List X) (again : Option (Question K)) → AsksAgain ask left again → AnyByRecursion P left → (rest : Vec X) × (again ≡ Some (ask rest)) × AnyByRecursion P rest.items
+again_asks : {K X : Type 0} (P : X → Type 0) (ask : Vec X → Question K) (left : List X) (again : Option (Question K)) → AsksAgain ask left again → AnyByRecursion P left
+    → (rest : Vec X) × (again ≡ Some (ask rest)) × AnyByRecursion P rest.items
 again_asks P ask left again (inl (none, e)) a = absurd (subst (AnyByRecursion P) none a)
 again_asks P ask left again (inr (rest, is, some, e)) a = (rest, e, subst (AnyByRecursion P) (sym is) a)
 
 module _ {K V H : Type 0} (laws : Laws K V H) (o : IsTotalOrder laws.cmp) (eqv : IsEquivalence laws.eq) (encoding : K → List ℕ) (values : V → List ℕ) (tell : Tell laws encoding values) (n : ℕ)
-    (local : Side K V H) (peer : Contents K V H) (root : Tree K (List ℕ)) (sides : AreSides laws local (side peer) root peer.tree.root) (small : AllByRecursion (λ p. length p.1 ≡ n) (tree_map laws (side peer))) where
+    (local : Side K V H) (peer : Contents K V H) (root : Tree K (List ℕ)) (sides : AreSides laws local (side peer) root peer.tree.root)
+    (small : AllByRecursion (λ p. length p.1 ≡ n) (tree_map laws (side peer))) where
   abbrev Lacked : K → Type 0
   Lacked = IsLacked laws local (side peer)
 
@@ -98,7 +101,8 @@ module _ {K V H : Type 0} (laws : Laws K V H) (o : IsTotalOrder laws.cmp) (eqv :
     pub covers : Faithful → (k : K) → Lacked k → AnyByRecursion (P k) asked → AnyByRecursion (P k) left ⊎ Among k after
 
   list_takes : {X : Type 0} (P : K → X → Type 0) (ask : Vec X → Question K) (asked : Vec X) (left : List X) (again : Option (Question K)) (before after : Found K V)
-      → ((k : K) (xs : Vec X) → AsksAbout laws (side peer) root k (ask xs) → AnyByRecursion (P k) xs.items) → ((k : K) (xs : Vec X) → AnyByRecursion (P k) xs.items → AsksAbout laws (side peer) root k (ask xs))
+      → ((k : K) (xs : Vec X) → AsksAbout laws (side peer) root k (ask xs) → AnyByRecursion (P k) xs.items)
+      → ((k : K) (xs : Vec X) → AnyByRecursion (P k) xs.items → AsksAbout laws (side peer) root k (ask xs))
       → AsksAgain ask left again → TakesList P asked.items left before after → Takes (ask asked) again before after
   list_takes P ask asked left again before after to from asks t = record {
     new = t.new;
@@ -110,50 +114,60 @@ module _ {K V H : Type 0} (laws : Laws K V H) (o : IsTotalOrder laws.cmp) (eqv :
       go k (inr a) = inr a
       go k (inl a) = let (rest, e, b) = again_asks (P k) ask left again asks a in inl (subst (IsAgain k) (sym e) (from k rest b))
 
-  pub sent_fits : (with_pages : Bool) (us : List (OwnedGap K × Outline K V)) → AllByRecursion (λ u. IsTold laws.cmp peer.rows with_pages (items_over laws.cmp laws.bytes_of peer.tree u.0) u.1) us → AllByRecursion (λ u. Fits n u.1) us
+  pub sent_fits : (with_pages : Bool) (us : List (OwnedGap K × Outline K V)) → AllByRecursion
+      (λ u. IsTold laws.cmp peer.rows with_pages (items_over laws.cmp laws.bytes_of peer.tree u.0) u.1) us → AllByRecursion (λ u. Fits n u.1) us
   sent_fits with_pages [] a = tt
   sent_fits with_pages (u ∷ us) a = (
     fits_sent laws.cmp o peer.tree.format laws.bytes_of n peer.rows with_pages peer.tree.root (owned_gap u.0) u.1
-        (each-with (λ m. get laws.cmp (tree_map laws (side peer)) m.0 ≡ Some m.1) (λ m. length m.1 ≡ n) (nodes_among (outline_over peer.tree.format laws.bytes_of laws.cmp peer.tree.root (owned_gap u.0)))
+        (each-with (λ m. get laws.cmp (tree_map laws (side peer)) m.0 ≡ Some m.1) (λ m. length m.1 ≡ n)
+        (nodes_among (outline_over peer.tree.format laws.bytes_of laws.cmp peer.tree.root (owned_gap u.0)))
         (λ m e. found_each laws.cmp o (λ d. length d ≡ n) (tree_map laws (side peer)) m.0 m.1 small e) (nodes_peers laws o eqv local (side peer) root peer.tree.root sides (owned_gap u.0))) a.0,
     sent_fits with_pages us a.1,
   )
 
-  pub same_begin : {X Y : Type 0} (E : X → X → Type 0) (asked asked' : List X) (ts us : List (X × Y)) (l m : List X) → AllZip E asked asked' → asked ≡ map (λ t. t.0) ts ++ l → asked' ≡ map (λ t. t.0) us ++ m
+  pub same_begin : {X Y : Type 0} (E : X → X → Type 0) (asked asked' : List X) (ts us : List (X × Y)) (l m : List X) → AllZip E asked asked'
+      → asked ≡ map (λ t. t.0) ts ++ l → asked' ≡ map (λ t. t.0) us ++ m
       → AllZip E (map (λ t. t.0) ts ++ l) (map (λ t. t.0) us ++ m)
   same_begin E asked asked' ts us l m s e f = subst (λ xs. AllZip E xs (map (λ t. t.0) us ++ m)) e (subst (AllZip E asked) f s)
 
-  outlines_take : (with_pages : Bool) (kind : Kind) (gaps gaps' left : List (OwnedGap K)) (reply : List ℕ) (before after : Found K V) (told' : List (OwnedGap K × Outline K V)) → AllZip (SameGapTold laws.cmp encoding) gaps gaps'
-      → Answers (λ g. IsTold laws.cmp peer.rows with_pages (items_over laws.cmp laws.bytes_of peer.tree g)) gaps' told' → reply ≡ front kind ++ outlines_bytes encoding values told'
+  outlines_take : (with_pages : Bool) (kind : Kind) (gaps gaps' left : List (OwnedGap K)) (reply : List ℕ) (before after : Found K V)
+      (told' : List (OwnedGap K × Outline K V)) → AllZip (SameGapTold laws.cmp encoding) gaps gaps'
+      → TellsFirst (λ g. IsTold laws.cmp peer.rows with_pages (items_over laws.cmp laws.bytes_of peer.tree g)) gaps' told' → reply ≡ front kind ++ outlines_bytes encoding values told'
       → HasOutlines laws n encoding values local (front kind) gaps reply before after left → TakesList (About with_pages) gaps left before after
   outlines_take with_pages kind gaps gaps' left reply before after told' same answers sent (told, read, some, are, lies, taken) =
       let bytes = (join_tells (front kind) (front kind) (outlines_bytes encoding values told) (outlines_bytes encoding values told') refl (sym read ∙ sent)).1 in
       let alike = outlines_tell laws.cmp laws.eq encoding values tell.keys tell.value (SameGapTold laws.cmp encoding) (λ g h s. s.1) n told told' left answers.left
-      (same_begin (SameGapTold laws.cmp encoding) gaps gaps' told told' left answers.left same are answers.begins) (fits_read laws local n told before after lies taken) (sent_fits with_pages told' answers.each) bytes in
+      (same_begin (SameGapTold laws.cmp encoding) gaps gaps' told told' left answers.left same are answers.begins) (fits_read laws local n told before after lies taken)
+      (sent_fits with_pages told' answers.each) bytes in
       record {
         new = outlines_new laws o eqv local (side peer) root peer.tree.root sides (SameGapTold laws.cmp encoding) (λ g h s. s.0) with_pages told told' before after alike answers.each taken;
         keeps = λ k. outlines_keep laws o eqv local (side peer) root peer.tree.root sides (SameGapTold laws.cmp encoding) (λ g h s. s.0) with_pages told before after k taken;
-        covers = λ faith k l a. go k (λ b. outlines_cover laws o eqv local (side peer) root peer.tree.root sides (SameGapTold laws.cmp encoding) (λ g h s. s.0) with_pages faith told told' before after k l alike answers.each taken b)
+        covers = λ faith k l a. go k (λ b. outlines_cover laws o eqv local (side peer) root peer.tree.root sides (SameGapTold laws.cmp encoding)
+            (λ g h s. s.0) with_pages faith told told' before after k l alike answers.each taken b)
             (any-split (About with_pages k) (map (λ t. t.0) told) left (subst (AnyByRecursion (About with_pages k)) are a));
       }
     where
-      go : (k : K) → (AnyByRecursion (About with_pages k) (map (λ t. t.0) told) → Among k after) → AnyByRecursion (About with_pages k) (map (λ t. t.0) told) ⊎ AnyByRecursion (About with_pages k) left → AnyByRecursion (About with_pages k) left ⊎ Among k after
+      go : (k : K) → (AnyByRecursion (About with_pages k) (map (λ t. t.0) told) → Among k after) → AnyByRecursion (About with_pages k) (map (λ t. t.0) told)
+          ⊎ AnyByRecursion (About with_pages k) left → AnyByRecursion (About with_pages k) left ⊎ Among k after
       go k f (inl a) = inr (f a)
       go k f (inr a) = inl a
 
   -- rows that came are added where this side doesn't have them
-  added_new : (before after : Found K V) (rows : List (K × V)) → after ≡ record before { rows = before.rows ++ new_rows laws local rows } → AllByRecursion Theirs rows → AllByRecursion New before.rows → AllByRecursion New after.rows
+  added_new : (before after : Found K V) (rows : List (K × V)) → after ≡ record before { rows = before.rows ++ new_rows laws local rows } → AllByRecursion Theirs rows
+      → AllByRecursion New before.rows → AllByRecursion New after.rows
   added_new before after rows e a b = subst (λ f. AllByRecursion New f.rows) (sym e) (each-append New before.rows (new_rows laws local rows) b (new_rows_new laws o eqv local (side peer) rows a))
 
-  added_covers : Faithful → (before after : Found K V) (rows : List (K × V)) (k : K) → Lacked k → after ≡ record before { rows = before.rows ++ new_rows laws local rows } → AllByRecursion Theirs rows → AnyByRecursion (λ r. Same laws.cmp k r.0) rows → Among k after
+  added_covers : Faithful → (before after : Found K V) (rows : List (K × V)) (k : K) → Lacked k → after ≡ record before { rows = before.rows ++ new_rows laws local rows }
+      → AllByRecursion Theirs rows → AnyByRecursion (λ r. Same laws.cmp k r.0) rows → Among k after
   added_covers faith before after rows k l e a i =
-      rows_among laws o eqv local (side peer) root peer.tree.root sides before after (new_rows laws local rows) k e (new_rows_cover laws o eqv local (side peer) sides.respects faith.values rows k l a i)
+      rows_among laws o eqv local (side peer) root peer.tree.root sides before after (new_rows laws local rows) k e
+      (new_rows_cover laws o eqv local (side peer) sides.respects faith.values rows k l a i)
 
   abbrev At : K → Wanted K → Type 0
   At k w = Same laws.cmp k w.key
 
   values_take : (keys keys' left : List (Wanted K)) (reply : List ℕ) (before after : Found K V) (told' : List (Wanted K × Option V)) → AllZip (SameWanted laws.cmp encoding) keys keys'
-      → Answers (λ w value. value ≡ get laws.cmp peer.rows w.key) keys' told' → reply ≡ front rows_at_kind ++ values_bytes values told'
+      → TellsFirst (λ w value. value ≡ get laws.cmp peer.rows w.key) keys' told' → reply ≡ front rows_at_kind ++ values_bytes values told'
       → HasValues laws n encoding values local keys reply before after left → TakesList At keys left before after
   values_take keys keys' left reply before after told' same answers sent (told, read, some, are, taken) =
       let bytes = (join_tells (front rows_at_kind) (front rows_at_kind) (values_bytes values told) (values_bytes values told') refl (sym read ∙ sent)).1 in
@@ -168,7 +182,8 @@ module _ {K V H : Type 0} (laws : Laws K V H) (o : IsTotalOrder laws.cmp) (eqv :
             (any-split (At k) (map (λ t. t.0) told) left (subst (AnyByRecursion (At k)) are a));
       }
     where
-      go : Faithful → (k : K) → (AnyByRecursion (At k) (map (λ t. t.0) told) → Among k after) → AnyByRecursion (At k) (map (λ t. t.0) told) ⊎ AnyByRecursion (At k) left → AnyByRecursion (At k) left ⊎ Among k after
+      go : Faithful → (k : K) → (AnyByRecursion (At k) (map (λ t. t.0) told) → Among k after) → AnyByRecursion (At k) (map (λ t. t.0) told) ⊎ AnyByRecursion (At k) left
+          → AnyByRecursion (At k) left ⊎ Among k after
       go faith k f (inl a) = inr (f a)
       go faith k f (inr a) = inl a
 
@@ -176,7 +191,7 @@ module _ {K V H : Type 0} (laws : Laws K V H) (o : IsTotalOrder laws.cmp) (eqv :
   In k g = IsInGap laws.cmp k (owned_gap g)
 
   parts_take : (gaps gaps' left : List (OwnedGap K)) (reply : List ℕ) (before after : Found K V) (told' : List (OwnedGap K × Part K V)) → AllZip (SameGapTold laws.cmp encoding) gaps gaps'
-      → Answers (IsPartOf laws.cmp peer.rows) gaps' told' → reply ≡ front rows_in_kind ++ parts_bytes encoding values told'
+      → TellsFirst (IsPartOf laws.cmp peer.rows) gaps' told' → reply ≡ front rows_in_kind ++ parts_bytes encoding values told'
       → HasParts laws n encoding values local gaps reply before after left → TakesList In gaps left before after
   parts_take gaps gaps' left reply before after told' same answers sent (told, behind, rest, read, some, are, lies, are_behind, is_left, taken) =
       let bytes = (join_tells (front rows_in_kind) (front rows_in_kind) (parts_bytes encoding values told) (parts_bytes encoding values told') refl (sym read ∙ sent)).1 in
@@ -219,7 +234,8 @@ module _ {K V H : Type 0} (laws : Laws K V H) (o : IsTotalOrder laws.cmp) (eqv :
 
   -- a reply is taken
   pub takes : (digest_of : K → List ℕ) (asked question : Question K) (reply : List ℕ) (before after : Found K V) (again : Option (Question K)) → SameQuestion laws.cmp encoding asked question
-      → IsReply laws.cmp laws.bytes_of encoding values digest_of n peer.rows peer.tree question reply → HasTaken laws n encoding values local asked reply before after again → Takes asked again before after
+      → IsReply laws.cmp laws.bytes_of encoding values digest_of n peer.rows peer.tree question reply
+      → HasTaken laws n encoding values local asked reply before after again → Takes asked again before after
   takes digest_of (Root s) (Root t) reply before after again same (settings, sent) (count, digest, read, taken, none) =
       let is = root_tells count (length peer.rows) digest (whole_digest (whole_item peer.tree.format laws.bytes_of peer.tree.root)) (sym read ∙ sent) in
       let (keeps, rows) = root_takes laws o eqv local (side peer) root peer.tree.root sides digest before after taken in
@@ -229,9 +245,11 @@ module _ {K V H : Type 0} (laws : Laws K V H) (o : IsTotalOrder laws.cmp) (eqv :
         covers = λ faith k l a. inr (root_covers laws o eqv local (side peer) root peer.tree.root sides faith before after k l (subst (λ d. IsRootTaken laws local d before after) is taken));
       }
   takes digest_of (Outlines m gs) (Outlines m' hs) reply before after again same (told', answers, sent) (left, has, asks) =
-      list_takes (About true) (Outlines m) gs left again before after (λ k xs a. a) (λ k xs a. a) asks (outlines_take true outlines_kind gs.items hs.items left reply before after told' same answers sent has)
+      list_takes (About true) (Outlines m) gs left again before after (λ k xs a. a) (λ k xs a. a) asks
+      (outlines_take true outlines_kind gs.items hs.items left reply before after told' same answers sent has)
   takes digest_of (Nodes m gs) (Nodes m' hs) reply before after again same (told', answers, sent) (left, has, asks) =
-      list_takes (About false) (Nodes m) gs left again before after (λ k xs a. a) (λ k xs a. a) asks (outlines_take false nodes_kind gs.items hs.items left reply before after told' same answers sent has)
+      list_takes (About false) (Nodes m) gs left again before after (λ k xs a. a) (λ k xs a. a) asks
+      (outlines_take false nodes_kind gs.items hs.items left reply before after told' same answers sent has)
   takes digest_of (RowsAt ws) (RowsAt xs) reply before after again same (told', answers, sent) (left, has, asks) =
       list_takes At RowsAt ws left again before after (λ k xs a. a) (λ k xs a. a) asks (values_take ws.items xs.items left reply before after told' same answers sent has)
   takes digest_of (RowsIn gs) (RowsIn hs) reply before after again same (told', answers, sent) (left, has, asks) =

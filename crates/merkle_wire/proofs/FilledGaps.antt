@@ -77,7 +77,8 @@ module _ {K : Type 0} (cmp : K → K → Ordering) (o : IsTotalOrder cmp) where
         alike : is_in_gap cmp p.0 g ≡ is_in_gap cmp q.0 g
         alike = is_in_gap-same cmp o g p.0 q.0 s.0
 
-        go : (is_in_gap cmp p.0 g ≡ false) ⊎ (is_in_gap cmp p.0 g ≡ true) → length (pairs_within cmp g ps) ≡ length (pairs_within cmp g qs) → length (pairs_within cmp g (p ∷ ps)) ≡ length (pairs_within cmp g (q ∷ qs))
+        go : (is_in_gap cmp p.0 g ≡ false) ⊎ (is_in_gap cmp p.0 g ≡ true) → length (pairs_within cmp g ps) ≡ length (pairs_within cmp g qs)
+            → length (pairs_within cmp g (p ∷ ps)) ≡ length (pairs_within cmp g (q ∷ qs))
         go (inl n) e = rw (n, sym alike ∙ n) e
         go (inr n) e = rw (n, sym alike ∙ n) (omega (arith, e))
 
@@ -106,7 +107,9 @@ module _ {K : Type 0} (cmp : K → K → Ordering) (o : IsTotalOrder cmp) where
             let within = pairs_within cmp g in
             let alike = same-pairs cmp t u s in
             let own : within (pairs u) ≡ pairs u =
-            all_pass (λ k. is_in_gap cmp k g) (pairs u) (each-with (λ p. IsInGap cmp p.0 g) (λ p. is_in_gap cmp p.0 g ≡ true) (pairs u) (λ p j. test_from_in_gap cmp p.0 g j) (in_gap_each (pairs t) (pairs u) alike (filling_in_gap t root f))) in
+            all_pass (λ k. is_in_gap cmp k g) (pairs u)
+            (each-with (λ p. IsInGap cmp p.0 g) (λ p. is_in_gap cmp p.0 g ≡ true) (pairs u) (λ p j. test_from_in_gap cmp p.0 g j)
+            (in_gap_each (pairs t) (pairs u) alike (filling_in_gap t root f))) in
             let split : within (pairs tree) ≡ within pre ++ (pairs u ++ within post) =
             ap within c ∙ within-append cmp g pre (pairs u ++ post) ∙ ap (λ w. within pre ++ w) (within-append cmp g (pairs u) post ∙ ap (λ w. w ++ within post) own) in
             let count : length (within (pairs tree)) ≡ length (pairs u) =
@@ -135,7 +138,8 @@ module _ {K V H : Type 0} (laws : Laws K V H) (o : IsTotalOrder laws.cmp) (local
   abbrev Items : ℕ → Gap K → Row K (List ℕ) → Type 0
   Items n g r = AllByRecursion (IsItemOf format laws.bytes_of laws.cmp tree n) (items_in laws.cmp o format laws.bytes_of g r)
 
-  new_filled : (n : ℕ) (g h : Gap K) (digest : List ℕ) (new : List (Gap K)) → IsItemOf format laws.bytes_of laws.cmp tree n (of_page g digest) → SameGap laws.cmp g h → IsNewGap laws local h (Some digest) new
+  new_filled : (n : ℕ) (g h : Gap K) (digest : List ℕ) (new : List (Gap K)) → IsItemOf format laws.bytes_of laws.cmp tree n (of_page g digest) → SameGap laws.cmp g h
+      → IsNewGap laws local h (Some digest) new
       → AllByRecursion (IsBelow n) new
   new_filled n g h digest new (t, f, low, is) same a = by new (gap_or_none laws local h digest new a)
     where
@@ -145,7 +149,8 @@ module _ {K V H : Type 0} (laws : Laws K V H) (o : IsTotalOrder laws.cmp) (local
       by (own ∷ other ∷ others) one = absurd one
 
   -- the pages of a row fill the parts of a gap that keys equal to its own make of it
-  row_filled : (n : ℕ) (g h : Gap K) (r : Row K (List ℕ)) (ks : List K) (new : List (Gap K)) → Items n g r → SameGap laws.cmp g h → SameKeys laws.cmp (keys_among (nodes_in laws.cmp o format laws.bytes_of g r)) ks
+  row_filled : (n : ℕ) (g h : Gap K) (r : Row K (List ℕ)) (ks : List K) (new : List (Gap K)) → Items n g r → SameGap laws.cmp g h
+      → SameKeys laws.cmp (keys_among (nodes_in laws.cmp o format laws.bytes_of g r)) ks
       → AreNewGaps laws local h ks (pages_beside None (items_in laws.cmp o format laws.bytes_of g r)) new → AllByRecursion (IsBelow n) new
   row_filled n g h (high q) (x ∷ ks) new v s k a = absurd (none q k)
     where
@@ -165,8 +170,10 @@ module _ {K V H : Type 0} (laws : Laws K V H) (o : IsTotalOrder laws.cmp) (local
       (row_filled n (part_behind g j) (part_behind h x) r ks rest v.1.1 (k.0, s.1) k.1 more))
 
   -- the pages right below one that fills a gap fill its parts, on lower levels
-  pub parts_filled : IsMap laws.cmp (pairs tree) → (lev : K → ℕ) → IsCanonicalRoot lev tree → (g h : Gap K) (u : Tree K (List ℕ)) (ks : List K) (new : List (Gap K)) → Fills laws.cmp g u tree → SameGap laws.cmp g h
-      → SameKeys laws.cmp (keys_among (nodes_among (outline_over format laws.bytes_of laws.cmp tree g))) ks → AreNewGaps laws local h ks (pages_beside None (outline_over format laws.bytes_of laws.cmp tree g)) new
+  pub parts_filled : IsMap laws.cmp (pairs tree) → (lev : K → ℕ) → IsCanonicalRoot lev tree → (g h : Gap K) (u : Tree K (List ℕ)) (ks : List K) (new : List (Gap K))
+      → Fills laws.cmp g u tree → SameGap laws.cmp g h
+      → SameKeys laws.cmp (keys_among (nodes_among (outline_over format laws.bytes_of laws.cmp tree g))) ks
+      → AreNewGaps laws local h ks (pages_beside None (outline_over format laws.bytes_of laws.cmp tree g)) new
       → AllByRecursion (IsBelow (level u)) new
   parts_filled up lev canonical g h (page l c r) ks new f s k a =
       let is = ap (outline_where format laws.bytes_of g) (filled_opens laws.cmp o g (page l c r) tree up f) in

@@ -59,7 +59,8 @@ module _ {K V H : Type 0} (laws : Laws K V H) (local : Side K V H) (n : ℕ) whe
   one_fits gap (digests_told nodes) before after l t = l.1
   one_fits gap (page_told digest keys pages) before after l (gaps, nodes, new, own, t) = (l.2, gaps_length gap keys pages gaps new, l.3)
 
-  pub fits_read : (ts : List (OwnedGap K × Outline K V)) (before after : Found K V) → AllByRecursion (λ t. LiesIn laws.cmp n (owned_gap t.0) t.1) ts → AreTaken laws local ts before after → AllByRecursion (λ t. Fits n t.1) ts
+  pub fits_read : (ts : List (OwnedGap K × Outline K V)) (before after : Found K V) → AllByRecursion (λ t. LiesIn laws.cmp n (owned_gap t.0) t.1) ts
+      → AreTaken laws local ts before after → AllByRecursion (λ t. Fits n t.1) ts
   fits_read [] before after l a = tt
   fits_read (t ∷ ts) before after l (mid, one, more) = (one_fits (owned_gap t.0) t.1 before mid l.0 one, fits_read ts mid after l.1 more)
 
@@ -84,7 +85,8 @@ module _ {K : Type 0} where
         go (Some (page l c r)) = row_pages g r
 
     -- on the side that wrote
-    pub fits_sent : {V : Type 0} (n : ℕ) (rows : List (K × V)) (with_pages : Bool) (root : Tree K (List ℕ)) (g : Gap K) (x : Outline K V) → AllByRecursion (λ m. length m.1 ≡ n) (nodes_among (outline_over format bytes_of cmp root g))
+    pub fits_sent : {V : Type 0} (n : ℕ) (rows : List (K × V)) (with_pages : Bool) (root : Tree K (List ℕ)) (g : Gap K) (x : Outline K V)
+        → AllByRecursion (λ m. length m.1 ≡ n) (nodes_among (outline_over format bytes_of cmp root g))
         → IsTold cmp rows with_pages (outline_over format bytes_of cmp root g) x → Fits n x
     fits_sent n rows with_pages root g (rows_told rs) a t = tt
     fits_sent n rows with_pages root g (digests_told nodes) a t = subst (AllByRecursion (λ m. length m.1 ≡ n)) (sym t.1) a

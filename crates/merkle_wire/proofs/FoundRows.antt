@@ -18,7 +18,8 @@ module _ {K V : Type 0} (cmp : K → K → Ordering) (encoding : K → List ℕ)
       × (told.bytes.items ≡ entries_bytes (row_behind encoding values) (row_key encoding) start found)
       × (last ≡ state_behind (row_behind encoding values) (row_key encoding) start found)
 
-  pub found_more : IsTotalOrder cmp → (keys : List K) (k : K) (most : ℕ) (old new : ToldRows) (last last' : List ℕ) → AreFound keys most old last → AddsRowAt cmp encoding values rows k last last' old new
+  pub found_more : IsTotalOrder cmp → (keys : List K) (k : K) (most : ℕ) (old new : ToldRows) (last last' : List ℕ) → AreFound keys most old last
+      → AddsRowAt cmp encoding values rows k last last' old new
       → AreFound (keys ++ k ∷ []) (most + 1) new last'
   found_more o keys k most old new last last' (found, at, count, few, bytes, behind) (inl none) = (
     found,

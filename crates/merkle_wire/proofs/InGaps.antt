@@ -115,16 +115,20 @@ module _ {K : Type 0} (cmp : K → K → Ordering) (o : IsTotalOrder cmp) where
         → AllByRecursion (λ r. is_before cmp g.before r.0 ≡ false) (drop i behind) → take i behind ≡ pairs_within cmp g rows
     between_parts g rows behind n i e none after before others =
         sym (ap within (sym (take-append-drop n rows)) ∙ filter-append (λ (r : K × X). is_in_gap cmp r.0 g) (take n rows) (drop n rows)
-        ∙ ap₂ (λ s t. s ++ t) (none_pass (λ k. is_in_gap cmp k g) (take n rows) (each (λ r. is_after cmp g.after r.0 ≡ false) (λ r. is_in_gap cmp r.0 g ≡ false) (λ r f. and_first (is_after cmp g.after r.0) (is_before cmp g.before r.0) f) (take n rows) none))
+        ∙ ap₂ (λ s t. s ++ t) (none_pass (λ k. is_in_gap cmp k g) (take n rows)
+        (each (λ r. is_after cmp g.after r.0 ≡ false) (λ r. is_in_gap cmp r.0 g ≡ false) (λ r f. and_first (is_after cmp g.after r.0) (is_before cmp g.before r.0) f) (take n rows) none))
         (ap within (sym e) ∙ ap within (sym (take-append-drop i behind)) ∙ filter-append (λ (r : K × X). is_in_gap cmp r.0 g) (take i behind) (drop i behind)
         ∙ ap₂ (λ s t. s ++ t)
-        (all_pass (λ k. is_in_gap cmp k g) (take i behind) (both (take i behind) (first_of (λ r. is_after cmp g.after r.0 ≡ true) behind i (subst (AllByRecursion (λ r. is_after cmp g.after r.0 ≡ true)) (sym e) after)) before))
-        (none_pass (λ k. is_in_gap cmp k g) (drop i behind) (each (λ r. is_before cmp g.before r.0 ≡ false) (λ r. is_in_gap cmp r.0 g ≡ false) (λ r f. and_second (is_after cmp g.after r.0) (is_before cmp g.before r.0) f) (drop i behind) others))
+        (all_pass (λ k. is_in_gap cmp k g) (take i behind)
+        (both (take i behind) (first_of (λ r. is_after cmp g.after r.0 ≡ true) behind i (subst (AllByRecursion (λ r. is_after cmp g.after r.0 ≡ true)) (sym e) after)) before))
+        (none_pass (λ k. is_in_gap cmp k g) (drop i behind)
+        (each (λ r. is_before cmp g.before r.0 ≡ false) (λ r. is_in_gap cmp r.0 g ≡ false) (λ r f. and_second (is_after cmp g.after r.0) (is_before cmp g.before r.0) f) (drop i behind) others))
         ∙ append-nil (take i behind)))
       where
         within : List (K × X) → List (K × X)
         within = pairs_within cmp g
 
-        both : (rs : List (K × X)) → AllByRecursion (λ r. is_after cmp g.after r.0 ≡ true) rs → AllByRecursion (λ r. is_before cmp g.before r.0 ≡ true) rs → AllByRecursion (λ r. is_in_gap cmp r.0 g ≡ true) rs
+        both : (rs : List (K × X)) → AllByRecursion (λ r. is_after cmp g.after r.0 ≡ true) rs → AllByRecursion (λ r. is_before cmp g.before r.0 ≡ true) rs
+            → AllByRecursion (λ r. is_in_gap cmp r.0 g ≡ true) rs
         both [] ys zs = tt
         both (r ∷ rs) ys zs = (and_both (is_after cmp g.after r.0) (is_before cmp g.before r.0) ys.0 zs.0, both rs ys.1 zs.1)

@@ -2,7 +2,7 @@ pub mod RowsMore
 pub mod FoundRows
 pub mod ToldAlone
 pub mod ItemsMore
-pub mod Telling
+pub mod Continued
 pub mod OfMessages
 pub mod InGaps
 pub mod RowParts

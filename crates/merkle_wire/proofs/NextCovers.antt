@@ -19,7 +19,7 @@ use Rattle.merkle_tree_theory.specs.Canonical.{IsCanonicalRoot, IsTreeOf, SamePa
 use Rattle.merkle_tree_theory.specs.State.{SameSettings, map_of}
 use Rattle.merkle_tree_theory.specs.Gap.{IsInGap}
 use Rattle.merkle_tree_theory.specs.Tree.{Tree}
-use Rattle.merkle_wire.specs.Asking.{IsDone, IsTakenFrom, all_whole}
+use Rattle.merkle_wire.specs.Asking.{IsAtEnd, IsTakenFrom, all_whole}
 use Rattle.merkle_wire.specs.Found.{Found, nothing}
 use Rattle.merkle_wire.specs.Gaps.{owned_gap}
 use Rattle.merkle_wire.specs.Next.{GoesOn, AsksOrGoesOn, IsNext}
@@ -98,14 +98,15 @@ module _ {K V H : Type 0} (laws : Laws K V H) (o : IsTotalOrder laws.cmp) (local
   whole_keeps f k (inr (inr (inr (inr a)))) = inr (inr (inr (inr a)))
 
   -- where nothing is to be asked for, a key is a row's
-  done_rows : (f : Found K V) (k : K) → IsDone f → Among k f → AnyByRecursion (λ r. Same laws.cmp k r.0) f.rows
+  done_rows : (f : Found K V) (k : K) → IsAtEnd f → Among k f → AnyByRecursion (λ r. Same laws.cmp k r.0) f.rows
   done_rows f k done (inl a) = absurd (subst (AnyByRecursion (IsInGap laws.cmp k)) done.0 a)
   done_rows f k done (inr (inl a)) = absurd (subst (AnyByRecursion (IsNodeOver laws peer root k)) done.1 a)
   done_rows f k done (inr (inr (inl a))) = absurd (subst (AnyByRecursion (Same laws.cmp k)) done.2 a)
   done_rows f k done (inr (inr (inr (inl a)))) = absurd (subst (AnyByRecursion (IsInGap laws.cmp k)) done.3 a)
   done_rows f k done (inr (inr (inr (inr a)))) = a
 
-  goes_on : (rounds : ℕ) (found : Found K V) (next : Next K V) → AllByRecursion New found.rows → (IsFaithfulSession laws local peer → (k : K) → Lacked k → Among k found) → GoesOn laws.cmp encoding rounds found next
+  goes_on : (rounds : ℕ) (found : Found K V) (next : Next K V) → AllByRecursion New found.rows → (IsFaithfulSession laws local peer → (k : K) → Lacked k → Among k found)
+      → GoesOn laws.cmp encoding rounds found next
       → CoversNext laws local peer root encoding next
   goes_on rounds found (Ask session message) new all (asked, is, same) = (is, by (both asked.1))
     where
@@ -122,9 +123,11 @@ module _ {K V H : Type 0} (laws : Laws K V H) (o : IsTotalOrder laws.cmp) (local
   }
 
 module _ {K V H : Type 0} (laws : Laws K V H) (o : IsTotalOrder laws.cmp) (eqv : IsEquivalence laws.eq) (encoding : K → List ℕ) (values : V → List ℕ) (tell : Tell laws encoding values) (n : ℕ)
-    (local : Side K V H) (peer : Contents K V H) (root : Tree K (List ℕ)) (sides : AreSides laws local (side peer) root peer.tree.root) (small : AllByRecursion (λ p. length p.1 ≡ n) (tree_map laws (side peer))) where
+    (local : Side K V H) (peer : Contents K V H) (root : Tree K (List ℕ)) (sides : AreSides laws local (side peer) root peer.tree.root)
+    (small : AllByRecursion (λ p. length p.1 ≡ n) (tree_map laws (side peer))) where
   asks_or_goes_on : (again : Option (Question K)) (rounds : ℕ) (found : Found K V) (next : Next K V) → AllByRecursion (IsNewRow laws local (side peer)) found.rows
-      → (IsFaithfulSession laws local (side peer) → (k : K) → IsLacked laws local (side peer) k → IsAgain laws o eqv encoding values tell n local peer root sides small k again ⊎ IsAmong laws (side peer) root k found)
+      → (IsFaithfulSession laws local (side peer) → (k : K) → IsLacked laws local (side peer) k
+      → IsAgain laws o eqv encoding values tell n local peer root sides small k again ⊎ IsAmong laws (side peer) root k found)
       → AsksOrGoesOn laws.cmp encoding again rounds found next → CoversNext laws local (side peer) root encoding next
   asks_or_goes_on None rounds found next new all goes = goes_on laws o local (side peer) root encoding rounds found next new (λ faith k l. by k (all faith k l)) goes
     where
@@ -136,10 +139,13 @@ module _ {K V H : Type 0} (laws : Laws K V H) (o : IsTotalOrder laws.cmp) (eqv :
   asks_or_goes_on (Some question) rounds found (Came rows) new all goes = absurd goes
 
   -- an exchange of messages covers on
-  pub exchange_covers : (digest_of : K → List ℕ) (before : Underway K V) (question : Question K) (message reply : List ℕ) (next : Next K V) → message ≡ question_bytes encoding before.asked → message ≡ question_bytes encoding question
-      → IsReply laws.cmp laws.bytes_of encoding values digest_of n peer.rows peer.tree question reply → IsNext laws n encoding values local before reply next → Covers laws local (side peer) root before → CoversNext laws local (side peer) root encoding next
+  pub exchange_covers : (digest_of : K → List ℕ) (before : Underway K V) (question : Question K) (message reply : List ℕ) (next : Next K V)
+      → message ≡ question_bytes encoding before.asked → message ≡ question_bytes encoding question
+      → IsReply laws.cmp laws.bytes_of encoding values digest_of n peer.rows peer.tree question reply → IsNext laws n encoding values local before reply next
+      → Covers laws local (side peer) root before → CoversNext laws local (side peer) root encoding next
   exchange_covers digest_of before question message reply next asked read is (found, again, taken, goes) c =
-      let t = takes laws o eqv encoding values tell n local peer root sides small digest_of before.asked question reply before.found found again (question_tells laws.cmp encoding tell.keys before.asked question (sym asked ∙ read)) is taken in
+      let t = takes laws o eqv encoding values tell n local peer root sides small digest_of before.asked question reply before.found found again
+      (question_tells laws.cmp encoding tell.keys before.asked question (sym asked ∙ read)) is taken in
       asks_or_goes_on again before.rounds found next (t.new c.new) (λ faith k l. by k (t.covers faith k l) (t.keeps k) (c.all faith k l)) goes
     where
       by : (k : K) → (AsksAbout laws (side peer) root k before.asked → IsAgain laws o eqv encoding values tell n local peer root sides small k again ⊎ IsAmong laws (side peer) root k found)
@@ -149,10 +155,14 @@ module _ {K V H : Type 0} (laws : Laws K V H) (o : IsTotalOrder laws.cmp) (eqv :
       by k f g (inr a) = inr (g a)
 
 -- the same of a peer whose rows and settings stayed as it answered, by any tree of its map
-module _ {K V H : Type 0} (laws : Laws K V H) (o : IsTotalOrder laws.cmp) (eqv : IsEquivalence laws.eq) (respects : (h : H) (a b : V) → laws.eq a b ≡ true → laws.value_digest h a ≡ laws.value_digest h b)
-    (one_tree : (hasher : H) (base : ℕ) (a b : List (K × List ℕ)) (t u : Tree K (List ℕ)) → SameMap laws.cmp (λ d e. d ≡ e) a b → IsTreeOf laws.cmp (laws.key_digest hasher) base t a → IsTreeOf laws.cmp (laws.key_digest hasher) base u b → SamePages laws.cmp t u)
-    (encoding : K → List ℕ) (values : V → List ℕ) (tell : Tell laws encoding values) (n : ℕ) (local : Side K V H) (up : IsMap laws.cmp local.rows) (met peer : Contents K V H) (rows : peer.rows ≡ met.rows) (settings : SameSettings met.tree peer.tree)
-    (kept : IsKept laws.cmp laws.value_digest peer) (canonical : IsCanonicalRoot (λ k. level_of (laws.key_digest peer.tree.hasher k) peer.tree.base) peer.tree.root) (small : HasSmallMap laws n (side peer)) where
+module _ {K V H : Type 0} (laws : Laws K V H) (o : IsTotalOrder laws.cmp) (eqv : IsEquivalence laws.eq)
+    (respects : (h : H) (a b : V) → laws.eq a b ≡ true → laws.value_digest h a ≡ laws.value_digest h b)
+    (one_tree : (hasher : H) (base : ℕ) (a b : List (K × List ℕ)) (t u : Tree K (List ℕ)) → SameMap laws.cmp (λ d e. d ≡ e) a b
+    → IsTreeOf laws.cmp (laws.key_digest hasher) base t a → IsTreeOf laws.cmp (laws.key_digest hasher) base u b → SamePages laws.cmp t u)
+    (encoding : K → List ℕ) (values : V → List ℕ) (tell : Tell laws encoding values) (n : ℕ) (local : Side K V H) (up : IsMap laws.cmp local.rows)
+    (met peer : Contents K V H) (rows : peer.rows ≡ met.rows) (settings : SameSettings met.tree peer.tree)
+    (kept : IsKept laws.cmp laws.value_digest peer) (canonical : IsCanonicalRoot (λ k. level_of (laws.key_digest peer.tree.hasher k) peer.tree.base) peer.tree.root)
+    (small : HasSmallMap laws n (side peer)) where
   -- the sides that met, by any tree of the peer's map
   pub sides_met : (root : Tree K (List ℕ)) → IsTreeOf laws.cmp (laws.key_digest met.tree.hasher) met.tree.base root (tree_map laws (side met)) → AreSides laws local (side peer) root peer.tree.root
   sides_met root of_peer =
@@ -169,9 +179,11 @@ module _ {K V H : Type 0} (laws : Laws K V H) (o : IsTotalOrder laws.cmp) (eqv :
         back = one_tree peer.tree.hasher peer.tree.base map map peer.tree.root root own tree of_map;
       }
 
-  pub exchanged : (digest_of : K → List ℕ) (before : Underway K V) (question : Question K) (message reply : List ℕ) (next : Next K V) → message ≡ question_bytes encoding before.asked → message ≡ question_bytes encoding question
+  pub exchanged : (digest_of : K → List ℕ) (before : Underway K V) (question : Question K) (message reply : List ℕ) (next : Next K V)
+      → message ≡ question_bytes encoding before.asked → message ≡ question_bytes encoding question
       → IsReply laws.cmp laws.bytes_of encoding values digest_of n met.rows peer.tree question reply → IsNext laws n encoding values local before reply next
-      → (root : Tree K (List ℕ)) → IsTreeOf laws.cmp (laws.key_digest met.tree.hasher) met.tree.base root (tree_map laws (side met)) → Covers laws local (side met) root before → CoversNext laws local (side met) root encoding next
+      → (root : Tree K (List ℕ)) → IsTreeOf laws.cmp (laws.key_digest met.tree.hasher) met.tree.base root (tree_map laws (side met))
+      → Covers laws local (side met) root before → CoversNext laws local (side met) root encoding next
   exchanged digest_of before question message reply next asked read is goes root of_peer c =
       let same = same_side met peer rows settings in
       let sides = sides_met root of_peer in
@@ -181,7 +193,8 @@ module _ {K V H : Type 0} (laws : Laws K V H) (o : IsTotalOrder laws.cmp) (eqv :
 
 module _ {K V H : Type 0} (laws : Laws K V H) (encoding : K → List ℕ) where
   -- a catch-up that begins covers all: it asks for the root
-  pub begun_covers : (local peer : Side K V H) (root : Tree K (List ℕ)) (begun : Underway K V) (settings : Settings K) → begun.asked ≡ Root settings → begun.found ≡ nothing → Covers laws local peer root begun
+  pub begun_covers : (local peer : Side K V H) (root : Tree K (List ℕ)) (begun : Underway K V) (settings : Settings K) → begun.asked ≡ Root settings
+      → begun.found ≡ nothing → Covers laws local peer root begun
   begun_covers local peer root begun settings asked found = record {
     new = subst (λ f. AllByRecursion (IsNewRow laws local peer) f.rows) (sym found) tt;
     all = λ faith k l. inl (subst (AsksAbout laws peer root k) (sym asked) tt);
@@ -189,11 +202,15 @@ module _ {K V H : Type 0} (laws : Laws K V H) (encoding : K → List ℕ) where
 
   -- what comes next covers what is missing, by the tree that the peer had at first, where the rows and the settings of both sides stayed since then
   pub covers_since : (local a peer b : Contents K V H) → a.rows ≡ local.rows → SameSettings local.tree a.tree → b.rows ≡ peer.rows → SameSettings peer.tree b.tree
-      → IsCanonicalRoot (λ k. level_of (laws.key_digest peer.tree.hasher k) peer.tree.base) peer.tree.root → SameMap laws.cmp (λ d e. d ≡ e) (map_of peer.tree) (tree_map laws (side peer)) → (before : Underway K V) (next : Next K V)
-      → ((root : Tree K (List ℕ)) → IsTreeOf laws.cmp (laws.key_digest b.tree.hasher) b.tree.base root (tree_map laws (side b)) → Covers laws (side a) (side b) root before → CoversNext laws (side a) (side b) root encoding next)
+      → IsCanonicalRoot (λ k. level_of (laws.key_digest peer.tree.hasher k) peer.tree.base) peer.tree.root
+      → SameMap laws.cmp (λ d e. d ≡ e) (map_of peer.tree) (tree_map laws (side peer)) → (before : Underway K V) (next : Next K V)
+      → ((root : Tree K (List ℕ)) → IsTreeOf laws.cmp (laws.key_digest b.tree.hasher) b.tree.base root (tree_map laws (side b))
+      → Covers laws (side a) (side b) root before → CoversNext laws (side a) (side b) root encoding next)
       → Covers laws (side local) (side peer) peer.tree.root before → CoversNext laws (side local) (side peer) peer.tree.root encoding next
   covers_since local a peer b rows settings peer_rows peer_settings canonical digested before next covers =
-      let at_local = subst (λ s. (root : Tree K (List ℕ)) → IsTreeOf laws.cmp (laws.key_digest b.tree.hasher) b.tree.base root (tree_map laws (side b)) → Covers laws s (side b) root before → CoversNext laws s (side b) root encoding next)
+      let at_local = subst (λ s. (root : Tree K (List ℕ)) → IsTreeOf laws.cmp (laws.key_digest b.tree.hasher) b.tree.base root (tree_map laws (side b))
+      → Covers laws s (side b) root before → CoversNext laws s (side b) root encoding next)
       (same_side local a rows settings) covers in
-      subst (λ s. (root : Tree K (List ℕ)) → IsTreeOf laws.cmp (laws.key_digest s.hasher) s.base root (tree_map laws s) → Covers laws (side local) s root before → CoversNext laws (side local) s root encoding next)
+      subst (λ s. (root : Tree K (List ℕ)) → IsTreeOf laws.cmp (laws.key_digest s.hasher) s.base root (tree_map laws s) → Covers laws (side local) s root before
+      → CoversNext laws (side local) s root encoding next)
       (same_side peer b peer_rows peer_settings) at_local peer.tree.root (canonical, digested)

@@ -3,7 +3,7 @@ use Rattle.std.proofs.Common.{◌≡◌, ◌≢◌, ℕ, List, [], Option, Some,
 use Rattle.std.specs.declared.cmp.Ordering.{Ordering}
 use Rattle.merkle_replica.specs.Contents.{Side}
 use Rattle.merkle_replica.specs.Laws.{Laws}
-use Rattle.merkle_wire.specs.Asking.{AsksForOutlines, IsAskedOf, IsDone}
+use Rattle.merkle_wire.specs.Asking.{AsksForOutlines, IsAskedOf, IsAtEnd}
 use Rattle.merkle_wire.specs.Faults.{IsRefusedFor}
 use Rattle.merkle_wire.specs.Fit.{IsFit}
 use Rattle.merkle_wire.specs.Found.{Found}
@@ -20,8 +20,10 @@ use Rattle.merkle_wire.specs.declared.session_error.SessionError.TheVariants.{Li
 use Rattle.merkle_wire.proofs.LeftToAsk.{some_mapped}
 
 module _ {K V H : Type 0} where
-  pub is_next : (laws : Laws K V H) (n : ℕ) (encoding : K → List ℕ) (values : V → List ℕ) (local was : Side K V H) (before inside : Underway K V) (reply : List ℕ) (found : Found K V) (again answered : Option (Question K)) (next : Next K V)
-      → was ≡ local → inside ≡ before → answered ≡ again → HasTaken laws n encoding values was inside.asked reply inside.found found answered → AsksOrGoesOn laws.cmp encoding again inside.rounds found next
+  pub is_next : (laws : Laws K V H) (n : ℕ) (encoding : K → List ℕ) (values : V → List ℕ) (local was : Side K V H) (before inside : Underway K V) (reply : List ℕ)
+      (found : Found K V) (again answered : Option (Question K)) (next : Next K V)
+      → was ≡ local → inside ≡ before → answered ≡ again → HasTaken laws n encoding values was inside.asked reply inside.found found answered
+      → AsksOrGoesOn laws.cmp encoding again inside.rounds found next
       → IsNext laws n encoding values local before reply next
   is_next laws n encoding values local was before inside reply found again answered next l s a taken goes =
       subst (λ u. IsNext laws n encoding values local u reply next) s
@@ -48,18 +50,20 @@ module _ {K V : Type 0} (cmp : K → K → Ordering) where
   outlines_of_some (RowsIn gaps) before after asks of none = absurd asks
 
   -- where nothing is to be asked for and the rows came, it has gone on
-  pub came_goes_on : (encoding : K → List ℕ) (rounds : ℕ) (before after : Found K V) (rows : List (K × V)) (next : Next K V) → IsAskedOf None before after → rows ≡ after.rows → IsCame cmp rows next → GoesOn cmp encoding rounds before next
+  pub came_goes_on : (encoding : K → List ℕ) (rounds : ℕ) (before after : Found K V) (rows : List (K × V)) (next : Next K V) → IsAskedOf None before after
+      → rows ≡ after.rows → IsCame cmp rows next → GoesOn cmp encoding rounds before next
   came_goes_on encoding rounds before after rows (Ask session message) done is came = absurd came
-  came_goes_on encoding rounds before after rows (Came all) done is came = (subst IsDone done.1 done.0, subst (λ rs. IsCame cmp rs (Came all)) (is ∙ ap (λ f. f.rows) done.1) came)
+  came_goes_on encoding rounds before after rows (Came all) done is came = (subst IsAtEnd done.1 done.0, subst (λ rs. IsCame cmp rs (Came all)) (is ∙ ap (λ f. f.rows) done.1) came)
 
   pub came_few : (rows : List (K × V)) (next : Next K V) → IsCame cmp rows next → AsksFew next
   came_few rows (Ask session message) came = absurd came
   came_few rows (Came all) came = tt
 
   -- rows that don't come end the catch-up
-  pub twice_ends : (rounds : ℕ) (before after : Found K V) (rows : List (K × V)) (error : SessionError) → IsAskedOf None before after → rows ≡ after.rows → IsTwice cmp rows error → IsEnded cmp rounds before error
+  pub twice_ends : (rounds : ℕ) (before after : Found K V) (rows : List (K × V)) (error : SessionError) → IsAskedOf None before after → rows ≡ after.rows
+      → IsTwice cmp rows error → IsEnded cmp rounds before error
   twice_ends rounds before after rows Memory done is twice = tt
-  twice_ends rounds before after rows Twice done is twice = (subst IsDone done.1 done.0, subst (HaveTwins cmp) (is ∙ ap (λ f. f.rows) done.1) twice)
+  twice_ends rounds before after rows Twice done is twice = (subst IsAtEnd done.1 done.0, subst (HaveTwins cmp) (is ∙ ap (λ f. f.rows) done.1) twice)
   twice_ends rounds before after rows (Malformed e) done is twice = absurd twice
   twice_ends rounds before after rows OtherKind done is twice = absurd twice
   twice_ends rounds before after rows Refused done is twice = absurd twice
@@ -69,7 +73,8 @@ module _ {K V : Type 0} (cmp : K → K → Ordering) where
   twice_ends rounds before after rows TooManyRounds done is twice = absurd twice
   twice_ends rounds before after rows (Limit limit) done is twice = absurd twice
 
-module _ {K V H : Type 0} (laws : Laws K V H) (n : ℕ) (encoding : K → List ℕ) (values : V → List ℕ) (is_key : K → Type 0) (is_value : V → Type 0) (local : Side K V H) (before : Underway K V) (reply : List ℕ) where
+module _ {K V H : Type 0} (laws : Laws K V H) (n : ℕ) (encoding : K → List ℕ) (values : V → List ℕ) (is_key : K → Type 0) (is_value : V → Type 0) (local : Side K V H)
+    (before : Underway K V) (reply : List ℕ) where
   abbrev Stopped : SessionError → Type 0
   Stopped = IsStopped laws n encoding values is_key is_value local before reply
 
@@ -87,7 +92,8 @@ module _ {K V H : Type 0} (laws : Laws K V H) (n : ℕ) (encoding : K → List �
   refused_stops (Limit limit) not = absurd not
 
   -- so does one after which it doesn't go on
-  pub ended_stops : (found : Found K V) (error : SessionError) → HasTaken laws n encoding values local before.asked reply before.found found None → IsEnded laws.cmp before.rounds found error → Stopped error
+  pub ended_stops : (found : Found K V) (error : SessionError) → HasTaken laws n encoding values local before.asked reply before.found found None
+      → IsEnded laws.cmp before.rounds found error → Stopped error
   ended_stops found Memory taken ended = tt
   ended_stops found TooManyRounds taken ended = (ended.0, found, taken, ended.1)
   ended_stops found Twice taken ended = (found, taken, ended.0, ended.1)
@@ -101,8 +107,10 @@ module _ {K V H : Type 0} (laws : Laws K V H) (n : ℕ) (encoding : K → List �
 
 -- a replica whose tree is hashed ends a catch-up as the side that it was
 module _ {K V H : Type 0} (laws : Laws K V H) (n : ℕ) (encoding : K → List ℕ) (values : V → List ℕ) (is_key : K → Type 0) (is_value : V → Type 0) where
-  pub is_stopped : (local was : Side K V H) (before inside : Underway K V) (reply : List ℕ) (found : Found K V) (answered : Option (Question K)) (error : SessionError) → was ≡ local → inside ≡ before → answered ≡ None
-      → HasTaken laws n encoding values was inside.asked reply inside.found found answered → IsEnded laws.cmp inside.rounds found error → IsStopped laws n encoding values is_key is_value local before reply error
+  pub is_stopped : (local was : Side K V H) (before inside : Underway K V) (reply : List ℕ) (found : Found K V) (answered : Option (Question K)) (error : SessionError)
+      → was ≡ local → inside ≡ before → answered ≡ None
+      → HasTaken laws n encoding values was inside.asked reply inside.found found answered → IsEnded laws.cmp inside.rounds found error
+      → IsStopped laws n encoding values is_key is_value local before reply error
   is_stopped local was before inside reply found answered error l s a taken ended =
       subst (λ u. IsStopped laws n encoding values is_key is_value local u reply error) s
       (subst (λ t. IsStopped laws n encoding values is_key is_value t inside reply error) l

@@ -59,7 +59,8 @@ module _ {K : Type 0} (encoding : K → List ℕ) (is_value : K → Type 0) wher
     no_gaps_of_nodes n behind is counted none question of e = absurd (omega (arith, ap second (sym is ∙ e)))
 
     -- the message is of a kind that doesn't ask
-    pub no_asking : (kind : Kind) → message ≡ front kind ++ left → kind ≢ message_kind.AskRoot → kind ≢ message_kind.AskOutlines → kind ≢ message_kind.AskNodes → kind ≢ message_kind.AskRowsAt → kind ≢ message_kind.AskRowsIn
+    pub no_asking : (kind : Kind) → message ≡ front kind ++ left → kind ≢ message_kind.AskRoot → kind ≢ message_kind.AskOutlines → kind ≢ message_kind.AskNodes
+        → kind ≢ message_kind.AskRowsAt → kind ≢ message_kind.AskRowsIn
         → AsksNothing encoding is_value message
     no_asking message_kind.AskRoot is a b c d f question of e = a refl
     no_asking message_kind.AskOutlines is a b c d f question of e = b refl
@@ -70,7 +71,8 @@ module _ {K : Type 0} (encoding : K → List ℕ) (is_value : K → Type 0) wher
 
   module _ (eq : K → K → Bool) (told : (x y : K) (r s : List ℕ) → encoding x ++ r ≡ encoding y ++ s → (eq x y ≡ true) × (r ≡ s)) where
     -- more stands after the settings
-    pub more_behind : (message left rest : List ℕ) (settings : Settings K) → message ≡ front message_kind.AskRoot ++ left → left ≡ settings_bytes encoding settings ++ rest → rest ≢ [] → AsksNothing encoding is_value message
+    pub more_behind : (message left rest : List ℕ) (settings : Settings K) → message ≡ front message_kind.AskRoot ++ left
+        → left ≡ settings_bytes encoding settings ++ rest → rest ≢ [] → AsksNothing encoding is_value message
     more_behind message left rest settings is told_by some (Root s) of e =
         let bytes = settings_bytes encoding s in
         some (settings_end encoding eq told settings s rest [] (sym told_by ∙ (same_behind 1 1 1 1 left bytes (sym is ∙ e)).1 ∙ sym (append-nil bytes)))

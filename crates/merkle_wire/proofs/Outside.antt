@@ -22,7 +22,8 @@ module _ {X K : Type 0} (cmp : K → K → Ordering) (key : X → K) (g : Gap K)
   pub go_on_behind : (after : Option K) (xs : List X) (i : ℕ) (x : X) → i < length xs → x ≡ get_or xs i x → GoOnBehind after xs (drop i xs) → GoOnBehind (Some (key x)) xs (drop (i + 1) xs)
   go_on_behind after xs i x low is so up = (next_behind after xs i x low is so up).2
 
-  pub not_between : (after : Option K) (xs : List X) (i : ℕ) (x : X) → i < length xs → x ≡ get_or xs i x → GoOnBehind after xs (drop i xs) → ¬ (IsAfter cmp after (key x) × IsBefore cmp g.before (key x))
+  pub not_between : (after : Option K) (xs : List X) (i : ℕ) (x : X) → i < length xs → x ≡ get_or xs i x → GoOnBehind after xs (drop i xs)
+      → ¬ (IsAfter cmp after (key x) × IsBefore cmp g.before (key x))
       → ¬ AscendIn cmp g (map key xs)
   not_between after xs i x low is so not up = let next = next_behind after xs i x low is so up in not (next.0, next.1)
 

@@ -100,7 +100,8 @@ module _ {K D : Type 0} (cmp : K → K → Ordering) (o : IsTotalOrder cmp) (g :
         from_rest a (p, f, inl q) = (p, rw a f, inl q)
         from_rest a (p, f, inr (i, q)) = (p, rw a f, inr (inr i, q))
 
-        by : (is_after cmp g.after j ≡ false) ⊎ (is_after cmp g.after j ≡ true) → (is_before cmp g.before j ≡ false) ⊎ (is_before cmp g.before j ≡ true) → IsParted cmp o (held_pairs h) j c (row_pairs r) k d
+        by : (is_after cmp g.after j ≡ false) ⊎ (is_after cmp g.after j ≡ true) → (is_before cmp g.before j ≡ false) ⊎ (is_before cmp g.before j ≡ true)
+            → IsParted cmp o (held_pairs h) j c (row_pairs r) k d
             → (get cmp (held_pairs h) k ≡ Some d → HasOverHeld h) → (get cmp (row_pairs r) k ≡ Some d → HasOverRow t r) → HasOverRow t (node h j c r)
         by (inr a) (inr b) parted held rest = (t, rw (a, b) refl, inl refl)
         by (inr a) (inl b) (inl (low, f)) held rest = from_held a b (held f)

@@ -49,7 +49,8 @@ module _ {K : Type 0} (cmp : K → K → Ordering) (o : IsTotalOrder cmp) where
   above_first : {X : Type 0} (xs ys : List (K × X)) → IsMap cmp (xs ++ ys) → AllByRecursion (λ q. AllByRecursion (λ r. Below cmp r.0 q.0) xs) ys
   above_first {X} [] ys m = each-all (λ q. AllByRecursion {X = K × X} (λ r. Below cmp r.0 q.0) []) ys (λ q. tt)
   above_first {X} (x ∷ xs) ys m =
-      each-both (λ q. Below cmp x.0 q.0) (λ q. AllByRecursion (λ (r : K × X). Below cmp r.0 q.0) xs) (λ q. AllByRecursion (λ (r : K × X). Below cmp r.0 q.0) (x ∷ xs)) ys (λ q a b. (a, b)) (each-behind (λ r. Below cmp x.0 r.0) xs ys m.0) (above_first xs ys m.1)
+      each-both (λ q. Below cmp x.0 q.0) (λ q. AllByRecursion (λ (r : K × X). Below cmp r.0 q.0) xs) (λ q. AllByRecursion (λ (r : K × X). Below cmp r.0 q.0) (x ∷ xs)) ys
+      (λ q a b. (a, b)) (each-behind (λ r. Below cmp x.0 r.0) xs ys m.0) (above_first xs ys m.1)
 
   found_not : {X : Type 0} (ps : List (K × X)) (k : K) (d : X) → AllByRecursion (λ p. Same cmp p.0 k → ⊥) ps → get cmp ps k ≡ Some d → ⊥
   found_not [] k d a e = cc
@@ -61,7 +62,8 @@ module _ {K : Type 0} (cmp : K → K → Ordering) (o : IsTotalOrder cmp) where
 
   module _ (g : Gap K) (own : Tree K (List ℕ)) (up : IsMap cmp (pairs own)) (p : Tree K (List ℕ)) (found : page_over cmp g own ≡ Some p) where
     -- what stands beside the page over a gap isn't in the gap
-    outside : (qs : List (K × List ℕ)) → AllByRecursion (λ q. get cmp (pairs own) q.0 ≡ Some q.1) qs → AllByRecursion (λ q. AllByRecursion (λ r. Same cmp r.0 q.0 → ⊥) (pairs p)) qs → AllByRecursion (λ q. IsInGap cmp q.0 g → ⊥) qs
+    outside : (qs : List (K × List ℕ)) → AllByRecursion (λ q. get cmp (pairs own) q.0 ≡ Some q.1) qs
+        → AllByRecursion (λ q. AllByRecursion (λ r. Same cmp r.0 q.0 → ⊥) (pairs p)) qs → AllByRecursion (λ q. IsInGap cmp q.0 g → ⊥) qs
     outside [] finds apart = tt
     outside (q ∷ qs) finds apart = (never, outside qs finds.1 apart.1)
       where
@@ -82,7 +84,8 @@ module _ {K : Type 0} (cmp : K → K → Ordering) (o : IsTotalOrder cmp) where
         let Apart : K × List ℕ → Type 0 = λ q. AllByRecursion (λ r. Same cmp r.0 q.0 → ⊥) (pairs p) in
         let before : AllByRecursion Apart pre =
         each-with (λ q. AllByRecursion (λ r. Below cmp q.0 r.0) (pairs p ++ post)) Apart pre
-        (λ q b. each-with (λ r. Below cmp q.0 r.0) (λ r. Same cmp r.0 q.0 → ⊥) (pairs p) (λ r low s. not_low_self cmp o q.0 (low_up cmp o q.0 r.0 q.0 low (same_up cmp o r.0 q.0 s))) (each-before (λ r. Below cmp q.0 r.0) (pairs p) post b))
+        (λ q b. each-with (λ r. Below cmp q.0 r.0) (λ r. Same cmp r.0 q.0 → ⊥) (pairs p)
+        (λ r low s. not_low_self cmp o q.0 (low_up cmp o q.0 r.0 q.0 low (same_up cmp o r.0 q.0 s))) (each-before (λ r. Below cmp q.0 r.0) (pairs p) post b))
         (below_rest pre (pairs p ++ post) m) in
         let behind : AllByRecursion Apart post =
         each-with (λ q. AllByRecursion (λ r. Below cmp r.0 q.0) (pairs p)) Apart post
@@ -140,7 +143,8 @@ module _ {K V H : Type 0} (laws : Laws K V H) (o : IsTotalOrder laws.cmp) (local
       go g h d s (Some p) = ap (λ b. b && pointwise nat_eq (page_digest local.format laws.bytes_of p) d) (lie_in-alike laws.cmp o g h s (pairs p))
 
   pub pages_known : (same : (t u : Tree K (List ℕ)) → IsOwn laws o local t → IsOwn laws o local u → SamePages laws.cmp t u)
-      → (digests : (t u : Tree K (List ℕ)) → SamePages laws.cmp t u → page_digest local.format laws.bytes_of t ≡ page_digest local.format laws.bytes_of u) → (g : Gap K) (d : List ℕ) → HasPageAt laws local g d → has_page_at laws local g d ≡ true
+      → (digests : (t u : Tree K (List ℕ)) → SamePages laws.cmp t u → page_digest local.format laws.bytes_of t ≡ page_digest local.format laws.bytes_of u)
+      → (g : Gap K) (d : List ℕ) → HasPageAt laws local g d → has_page_at laws local g d ≡ true
   pages_known same digests g d has =
       let (p, f, is) = page_in_each laws o local same digests g d has own up is_own in
       ap (test g d) (filled_opens laws.cmp o g p own up f)

@@ -50,7 +50,8 @@ pub record AreSides {K V H : Type 0} (laws : Laws K V H) (local peer : Side K V 
 
 module _ {K V H : Type 0} (laws : Laws K V H) (o : IsTotalOrder laws.cmp) (local peer : Side K V H) (root tree : Tree K (List ℕ)) (k : K) (f h : Found K V) where
   -- a key is among more where it is among less
-  pub among-more : (AnyByRecursion (IsInGap laws.cmp k) f.below → AnyByRecursion (IsInGap laws.cmp k) h.below) → (AnyByRecursion (IsNodeOver laws peer root k) f.nodes → AnyByRecursion (IsNodeOver laws peer root k) h.nodes)
+  pub among-more : (AnyByRecursion (IsInGap laws.cmp k) f.below → AnyByRecursion (IsInGap laws.cmp k) h.below)
+      → (AnyByRecursion (IsNodeOver laws peer root k) f.nodes → AnyByRecursion (IsNodeOver laws peer root k) h.nodes)
       → (AnyByRecursion (Same laws.cmp k) f.wanted → AnyByRecursion (Same laws.cmp k) h.wanted) → (AnyByRecursion (IsInGap laws.cmp k) f.whole → AnyByRecursion (IsInGap laws.cmp k) h.whole)
       → (AnyByRecursion (λ r. Same laws.cmp k r.0) f.rows → AnyByRecursion (λ r. Same laws.cmp k r.0) h.rows) → IsAmong laws peer root k f → IsAmong laws peer root k h
   among-more a b c d e (inl i) = inl (a i)
@@ -59,7 +60,8 @@ module _ {K V H : Type 0} (laws : Laws K V H) (o : IsTotalOrder laws.cmp) (local
   among-more a b c d e (inr (inr (inr (inl i)))) = inr (inr (inr (inl (d i))))
   among-more a b c d e (inr (inr (inr (inr i)))) = inr (inr (inr (inr (e i))))
 
-module _ {K V H : Type 0} (laws : Laws K V H) (o : IsTotalOrder laws.cmp) (eqv : IsEquivalence laws.eq) (local peer : Side K V H) (root tree : Tree K (List ℕ)) (sides : AreSides laws local peer root tree) where
+module _ {K V H : Type 0} (laws : Laws K V H) (o : IsTotalOrder laws.cmp) (eqv : IsEquivalence laws.eq) (local peer : Side K V H) (root tree : Tree K (List ℕ))
+    (sides : AreSides laws local peer root tree) where
   abbrev Lacked : K → Type 0
   Lacked = IsLacked laws local peer
 
@@ -87,7 +89,8 @@ module _ {K V H : Type 0} (laws : Laws K V H) (o : IsTotalOrder laws.cmp) (eqv :
       each-with (λ n. get laws.cmp (pairs tree) n.0 ≡ Some n.1) IsPeers (nodes_among (items g)) (λ n e. sym (at_tree n.0) ∙ e) (nodes_over_in laws.cmp o peer.format laws.bytes_of tree g up_tree)
 
   -- no key that is missing is hidden
-  pub none_hidden : HaveFaithfulPages laws local peer → (k : K) → Lacked k → (t : Tree K (List ℕ)) → IsPageIn t tree → HasPage laws local (page_digest peer.format laws.bytes_of t) → (d : List ℕ) → get laws.cmp (pairs t) k ≡ Some d → ⊥
+  pub none_hidden : HaveFaithfulPages laws local peer → (k : K) → Lacked k → (t : Tree K (List ℕ)) → IsPageIn t tree
+      → HasPage laws local (page_digest peer.format laws.bytes_of t) → (d : List ℕ) → get laws.cmp (pairs t) k ≡ Some d → ⊥
   none_hidden faithful k (e, there, lacks) t i (s, (u, (form, own), j), digests) d f =
       let maps = faithful s t (u, (form, own), j) (tree, sides.is_tree, i) digests in
       let found : get laws.cmp (pairs s) k ≡ Some d = same_get laws.cmp o (pairs s) (pairs t) maps k ∙ f in
@@ -102,7 +105,8 @@ module _ {K V H : Type 0} (laws : Laws K V H) (o : IsTotalOrder laws.cmp) (eqv :
       let (p, f, inside, found) = over_has laws.cmp o g k d i tree up_tree (at_tree k ∙ there) in
       go p f (map_inside laws.cmp o p tree up_tree inside) found
     where
-      go : (p : Tree K (List ℕ)) → page_over laws.cmp g tree ≡ Some p → IsMap laws.cmp (pairs p) → get laws.cmp (pairs p) k ≡ Some d → AnyByRecursion (Same laws.cmp k) (keys_among (nodes_among (items g)))
+      go : (p : Tree K (List ℕ)) → page_over laws.cmp g tree ≡ Some p → IsMap laws.cmp (pairs p) → get laws.cmp (pairs p) k ≡ Some d
+          → AnyByRecursion (Same laws.cmp k) (keys_among (nodes_among (items g)))
       go (page l c r) f m found =
           let is : items g ≡ items_in laws.cmp o peer.format laws.bytes_of g r = ap (outline_where peer.format laws.bytes_of g) f in
           subst (λ xs. AnyByRecursion (Same laws.cmp k) (keys_among (nodes_among xs))) (sym is)
@@ -113,7 +117,8 @@ module _ {K V H : Type 0} (laws : Laws K V H) (o : IsTotalOrder laws.cmp) (eqv :
   IsAbout true k g = IsInGap laws.cmp k g
   IsAbout false k g = IsNodeOver laws peer root k g
 
-  about_is_node : (with_pages : Bool) (g h : Gap K) (k : K) → Lacked k → SameGap laws.cmp g h → IsAbout with_pages k g → (with_pages ≡ true → HasNoPage (items h)) → AnyByRecursion (Same laws.cmp k) (keys_among (nodes_among (items h)))
+  about_is_node : (with_pages : Bool) (g h : Gap K) (k : K) → Lacked k → SameGap laws.cmp g h → IsAbout with_pages k g → (with_pages ≡ true → HasNoPage (items h))
+      → AnyByRecursion (Same laws.cmp k) (keys_among (nodes_among (items h)))
   about_is_node true g h k l s i none = gap_is_nodes h k l (in_gap-alike laws.cmp o g h k s i) (none refl)
   about_is_node false g h k l s i none = node_over-same laws.cmp o peer.format laws.bytes_of root tree g h k sides.same s i
 
@@ -132,22 +137,27 @@ module _ {K V H : Type 0} (laws : Laws K V H) (o : IsTotalOrder laws.cmp) (eqv :
   any_nodes (n ∷ ns) (m ∷ ms) k s (inr i) = inr (any_nodes ns ms k s.2 i)
 
   -- a page that was told with those below it
-  page_covers : IsFaithfulSession laws local peer → (g h : Gap K) (digest : List ℕ) (keys : List K) (pages : List (Option (List ℕ))) (gaps nodes : List (Gap K)) (k : K) → Lacked k → SameGap laws.cmp g h → IsInGap laws.cmp k g
-      → digest ≡ nodes_digest (nodes_among (items h)) → SameKeys laws.cmp keys (keys_among (nodes_among (items h))) → pages ≡ pages_beside None (items h) → AreNewGaps laws local g keys pages gaps → IsGapOrNone laws local g nodes
+  page_covers : IsFaithfulSession laws local peer → (g h : Gap K) (digest : List ℕ) (keys : List K) (pages : List (Option (List ℕ))) (gaps nodes : List (Gap K)) (k : K)
+      → Lacked k → SameGap laws.cmp g h → IsInGap laws.cmp k g
+      → digest ≡ nodes_digest (nodes_among (items h)) → SameKeys laws.cmp keys (keys_among (nodes_among (items h))) → pages ≡ pages_beside None (items h)
+      → AreNewGaps laws local g keys pages gaps → IsGapOrNone laws local g nodes
       → (nodes ≡ [] → HasNodes laws local keys digest) → AnyByRecursion (IsInGap laws.cmp k) gaps ⊎ AnyByRecursion (IsNodeOver laws peer root k) nodes
   page_covers faith g h digest keys pages gaps nodes k (d, there, lacks) s i digests are beside new one few =
       let (p, f, inside, found) = over_has laws.cmp o h k d (in_gap-alike laws.cmp o g h k s i) tree up_tree (at_tree k ∙ there) in
       go p f inside found
     where
-      node_covers : (p : Tree K (List ℕ)) → IsPageIn p tree → nodes_among (items h) ≡ map pair_of (nodes_of p) → (nodes : List (Gap K)) → IsGapOrNone laws local g nodes → (nodes ≡ [] → HasNodes laws local keys digest)
+      node_covers : (p : Tree K (List ℕ)) → IsPageIn p tree → nodes_among (items h) ≡ map pair_of (nodes_of p) → (nodes : List (Gap K)) → IsGapOrNone laws local g nodes
+          → (nodes ≡ [] → HasNodes laws local keys digest)
           → AnyByRecursion (Same laws.cmp k) (keys_among (nodes_among (items h))) → AnyByRecursion (IsNodeOver laws peer root k) nodes
       node_covers p inside nodes_of_p [] one few a =
-          absurd (has_not_all laws o eqv local peer faith.nodes p (tree, sides.is_tree, inside) (nodes_among (items h)) nodes_of_p keys digest k (d, there, lacks) (nodes_peers h) (same_keys-back laws.cmp o keys (keys_among (nodes_among (items h))) are) digests (few refl) a)
+          absurd (has_not_all laws o eqv local peer faith.nodes p (tree, sides.is_tree, inside) (nodes_among (items h)) nodes_of_p keys digest k (d, there, lacks)
+          (nodes_peers h) (same_keys-back laws.cmp o keys (keys_among (nodes_among (items h))) are) digests (few refl) a)
       node_covers p inside nodes_of_p (own ∷ []) one few a =
           inl (node_over-same laws.cmp o peer.format laws.bytes_of tree root h own k sides.back (same_gap-trans laws.cmp o h g own (same_gap-back laws.cmp o g h s) one) a)
       node_covers p inside nodes_of_p (own ∷ other ∷ others) one few a = absurd one
 
-      go : (p : Tree K (List ℕ)) → page_over laws.cmp h tree ≡ Some p → IsPageIn p tree → get laws.cmp (pairs p) k ≡ Some d → AnyByRecursion (IsInGap laws.cmp k) gaps ⊎ AnyByRecursion (IsNodeOver laws peer root k) nodes
+      go : (p : Tree K (List ℕ)) → page_over laws.cmp h tree ≡ Some p → IsPageIn p tree → get laws.cmp (pairs p) k ≡ Some d → AnyByRecursion (IsInGap laws.cmp k) gaps
+          ⊎ AnyByRecursion (IsNodeOver laws peer root k) nodes
       go (page l c r) f inside found =
           let is : items h ≡ items_in laws.cmp o peer.format laws.bytes_of h r = ap (outline_where peer.format laws.bytes_of h) f in
           by (shown laws o local peer.format h g r keys gaps k d (map_inside laws.cmp o (page l c r) tree up_tree inside) found
@@ -155,12 +165,15 @@ module _ {K V H : Type 0} (laws : Laws K V H) (o : IsTotalOrder laws.cmp) (eqv :
           (subst (λ ps. AreNewGaps laws local g keys ps gaps) (beside ∙ ap (pages_beside None) is) new) i)
         where
           by : IsShown laws o local peer.format h r gaps k d → AnyByRecursion (IsInGap laws.cmp k) gaps ⊎ AnyByRecursion (IsNodeOver laws peer root k) nodes
-          by (inl a) = inr (node_covers (page l c r) inside (ap nodes_among (ap (outline_where peer.format laws.bytes_of h) f) ∙ nodes_are laws.cmp o peer.format laws.bytes_of h r) nodes one few (subst (λ xs. AnyByRecursion (Same laws.cmp k) (keys_among (nodes_among xs))) (sym (ap (outline_where peer.format laws.bytes_of h) f)) a))
+          by (inl a) = inr (node_covers (page l c r) inside
+              (ap nodes_among (ap (outline_where peer.format laws.bytes_of h) f) ∙ nodes_are laws.cmp o peer.format laws.bytes_of h r) nodes one few
+              (subst (λ xs. AnyByRecursion (Same laws.cmp k) (keys_among (nodes_among xs))) (sym (ap (outline_where peer.format laws.bytes_of h) f)) a))
           by (inr (inl b)) = inl b
           by (inr (inr (t, lower, own, q))) = absurd (none_hidden faith.faithful.same_pages k (d, there, lacks) t (page_in t (page l c r) tree (inr lower) inside) own d q)
 
   -- what was told is taken: a key that it is about is among what was found
-  pub one_covers : IsFaithfulSession laws local peer → (with_pages : Bool) (g h : Gap K) (x y : Outline K V) (before after : Found K V) (k : K) → Lacked k → SameGap laws.cmp g h → SameOutline laws.cmp laws.eq x y → IsAbout with_pages k g
+  pub one_covers : IsFaithfulSession laws local peer → (with_pages : Bool) (g h : Gap K) (x y : Outline K V) (before after : Found K V) (k : K) → Lacked k
+      → SameGap laws.cmp g h → SameOutline laws.cmp laws.eq x y → IsAbout with_pages k g
       → IsTold laws.cmp peer.rows with_pages (items h) y → IsTaken laws local g x before after → IsAmong laws peer root k after
   one_covers faith with_pages g h (rows_told rs) (rows_told ss) before after k l s same about (none, told) taken =
       let node = about_is_node with_pages g h k l s about none in
@@ -174,9 +187,12 @@ module _ {K V H : Type 0} (laws : Laws K V H) (o : IsTotalOrder laws.cmp) (eqv :
       let new = new_keys_cover laws o eqv local peer ns k l (same_nodes ns (nodes_among (items h)) is (nodes_peers h)) (any_nodes ns (nodes_among (items h)) k is node) in
       subst (IsAmong laws peer root k) (sym taken) (inr (inr (inl (any-append (Same laws.cmp k) before.wanted (new_keys laws local ns) (inr new)))))
   one_covers faith true g h (page_told c js ps) (page_told d ks qs) before after k l s same about (yes', digests, are, beside) (gaps, nodes, new, own, taken) =
-      subst (IsAmong laws peer root k) (sym taken) (go (page_covers faith g h c js ps gaps nodes k l s about (same.0 ∙ digests) (subst (SameKeys laws.cmp js) are same.1) (same.2 ∙ beside) new (nodes_or_none laws local g js c nodes own) (nodes_spared laws local g js c nodes own)))
+      subst (IsAmong laws peer root k) (sym taken)
+      (go (page_covers faith g h c js ps gaps nodes k l s about (same.0 ∙ digests) (subst (SameKeys laws.cmp js) are same.1) (same.2 ∙ beside) new
+      (nodes_or_none laws local g js c nodes own) (nodes_spared laws local g js c nodes own)))
     where
-      go : AnyByRecursion (IsInGap laws.cmp k) gaps ⊎ AnyByRecursion (IsNodeOver laws peer root k) nodes → IsAmong laws peer root k (record before { below = before.below ++ gaps; nodes = before.nodes ++ nodes })
+      go : AnyByRecursion (IsInGap laws.cmp k) gaps ⊎ AnyByRecursion (IsNodeOver laws peer root k) nodes
+          → IsAmong laws peer root k (record before { below = before.below ++ gaps; nodes = before.nodes ++ nodes })
       go (inl a) = inl (any-append (IsInGap laws.cmp k) before.below gaps (inr a))
       go (inr a) = inr (inl (any-append (IsNodeOver laws peer root k) before.nodes nodes (inr a)))
   one_covers faith false g h (page_told c js ps) (page_told d ks qs) before after k l s same about told taken = let never : false ≡ true = told.0 in absurd (cc)
@@ -197,7 +213,8 @@ module _ {K V H : Type 0} (laws : Laws K V H) (o : IsTotalOrder laws.cmp) (eqv :
   one_keeps g (digests_told ns) before after k taken =
       among-more laws o local peer root tree k before after
       (λ a. subst (λ f. AnyByRecursion (IsInGap laws.cmp k) f.below) (sym taken) a) (λ a. subst (λ f. AnyByRecursion (IsNodeOver laws peer root k) f.nodes) (sym taken) a)
-      (λ a. subst (λ f. AnyByRecursion (Same laws.cmp k) f.wanted) (sym taken) (any-append (Same laws.cmp k) before.wanted (new_keys laws local ns) (inl a))) (λ a. subst (λ f. AnyByRecursion (IsInGap laws.cmp k) f.whole) (sym taken) a)
+      (λ a. subst (λ f. AnyByRecursion (Same laws.cmp k) f.wanted) (sym taken) (any-append (Same laws.cmp k) before.wanted (new_keys laws local ns) (inl a)))
+      (λ a. subst (λ f. AnyByRecursion (IsInGap laws.cmp k) f.whole) (sym taken) a)
       (λ a. subst (λ f. AnyByRecursion (λ r. Same laws.cmp k r.0) f.rows) (sym taken) a)
   one_keeps g (page_told c js ps) before after k (gaps, nodes, new, own, taken) =
       among-more laws o local peer root tree k before after
@@ -207,7 +224,8 @@ module _ {K V H : Type 0} (laws : Laws K V H) (o : IsTotalOrder laws.cmp) (eqv :
       (λ a. subst (λ f. AnyByRecursion (λ r. Same laws.cmp k r.0) f.rows) (sym taken) a)
 
   -- rows that were found are new
-  pub one_new : (with_pages : Bool) (g h : Gap K) (x y : Outline K V) (before after : Found K V) → SameOutline laws.cmp laws.eq x y → IsTold laws.cmp peer.rows with_pages (items h) y → IsTaken laws local g x before after
+  pub one_new : (with_pages : Bool) (g h : Gap K) (x y : Outline K V) (before after : Found K V) → SameOutline laws.cmp laws.eq x y
+      → IsTold laws.cmp peer.rows with_pages (items h) y → IsTaken laws local g x before after
       → AllByRecursion New before.rows → AllByRecursion New after.rows
   one_new with_pages g h (rows_told rs) (rows_told ss) before after same told taken a =
       let theirs = theirs_alike laws o eqv local peer rs ss same (rows_at_theirs laws o eqv local peer (keys_among (nodes_among (items h))) ss told.1) in

@@ -85,22 +85,30 @@ module _ {K : Type 0} (cmp : K → K → Ordering) (o : IsTotalOrder cmp) where
     row_nodes_in g (high (below t)) m = tt
     row_nodes_in g (node h j e r) m = by h m (row_nodes_in (part_behind g j) r (map-rest cmp (held_pairs h) ((j, e) ∷ row_pairs r) m).1)
       where
-        behind : (h : Held K (List ℕ)) → IsMap cmp (row_pairs (node h j e r)) → (ns : List (K × List ℕ)) → AllByRecursion (λ n. get cmp (row_pairs r) n.0 ≡ Some n.1) ns → AllByRecursion (λ n. get cmp (row_pairs (node h j e r)) n.0 ≡ Some n.1) ns
+        behind : (h : Held K (List ℕ)) → IsMap cmp (row_pairs (node h j e r)) → (ns : List (K × List ℕ)) → AllByRecursion (λ n. get cmp (row_pairs r) n.0 ≡ Some n.1) ns
+            → AllByRecursion (λ n. get cmp (row_pairs (node h j e r)) n.0 ≡ Some n.1) ns
         behind h m [] a = tt
-        behind h m (n ∷ ns) a = (get_behind (held_pairs h) ((j, e) ∷ row_pairs r) n.0 n.1 m (get_behind ((j, e) ∷ []) (row_pairs r) n.0 n.1 (map-rest cmp (held_pairs h) ((j, e) ∷ row_pairs r) m) a.0), behind h m ns a.1)
+        behind h m (n ∷ ns) a = (
+          get_behind (held_pairs h) ((j, e) ∷ row_pairs r) n.0 n.1 m
+              (get_behind ((j, e) ∷ []) (row_pairs r) n.0 n.1 (map-rest cmp (held_pairs h) ((j, e) ∷ row_pairs r) m) a.0),
+          behind h m ns a.1,
+        )
 
         here : (h : Held K (List ℕ)) → IsMap cmp (row_pairs (node h j e r)) → get cmp (row_pairs (node h j e r)) j ≡ Some e
         here h m = get_behind (held_pairs h) ((j, e) ∷ row_pairs r) j e m (at_head cmp o (j, e) (row_pairs r) j (tied_itself o j))
 
-        by : (h : Held K (List ℕ)) → IsMap cmp (row_pairs (node h j e r)) → AllByRecursion (λ n. get cmp (row_pairs r) n.0 ≡ Some n.1) (nodes_in (part_behind g j) r) → AllByRecursion (λ n. get cmp (row_pairs (node h j e r)) n.0 ≡ Some n.1) (nodes_in g (node h j e r))
+        by : (h : Held K (List ℕ)) → IsMap cmp (row_pairs (node h j e r)) → AllByRecursion (λ n. get cmp (row_pairs r) n.0 ≡ Some n.1) (nodes_in (part_behind g j) r)
+            → AllByRecursion (λ n. get cmp (row_pairs (node h j e r)) n.0 ≡ Some n.1) (nodes_in g (node h j e r))
         by nothing m rest = (here nothing m, behind nothing m (nodes_in (part_behind g j) r) rest)
         by (below t) m rest = (here (below t) m, behind (below t) m (nodes_in (part_behind g j) r) rest)
 
     -- the nodes of the page over a gap are among the pairs of the tree
-    pub nodes_over_in : (root : Tree K (List ℕ)) (g : Gap K) → IsMap cmp (pairs root) → AllByRecursion (λ n. get cmp (pairs root) n.0 ≡ Some n.1) (nodes_among (outline_over format bytes_of cmp root g))
+    pub nodes_over_in : (root : Tree K (List ℕ)) (g : Gap K) → IsMap cmp (pairs root)
+        → AllByRecursion (λ n. get cmp (pairs root) n.0 ≡ Some n.1) (nodes_among (outline_over format bytes_of cmp root g))
     nodes_over_in root g m = go (page_over cmp g root) refl
       where
-        up : (p : Tree K (List ℕ)) → IsPageIn p root → (ns : List (K × List ℕ)) → AllByRecursion (λ n. get cmp (pairs p) n.0 ≡ Some n.1) ns → AllByRecursion (λ n. get cmp (pairs root) n.0 ≡ Some n.1) ns
+        up : (p : Tree K (List ℕ)) → IsPageIn p root → (ns : List (K × List ℕ)) → AllByRecursion (λ n. get cmp (pairs p) n.0 ≡ Some n.1) ns
+            → AllByRecursion (λ n. get cmp (pairs root) n.0 ≡ Some n.1) ns
         up p i [] a = tt
         up p i (n ∷ ns) a = (get_inside cmp o p root n.0 n.1 i m a.0, up p i ns a.1)
 
@@ -111,20 +119,23 @@ module _ {K : Type 0} (cmp : K → K → Ordering) (o : IsTotalOrder cmp) where
             up (page l c r) i (nodes_in g r) (row_nodes_in g r (inside map_down (page l c r) root m i))
 
     -- where no page is below, each key is a node
-    pub all_nodes : (g : Gap K) (r : Row K (List ℕ)) (k : K) (d : List ℕ) → IsMap cmp (row_pairs r) → HasNoPage (items_in g r) → get cmp (row_pairs r) k ≡ Some d → AnyByRecursion (Same cmp k) (keys_among (nodes_in g r))
+    pub all_nodes : (g : Gap K) (r : Row K (List ℕ)) (k : K) (d : List ℕ) → IsMap cmp (row_pairs r) → HasNoPage (items_in g r) → get cmp (row_pairs r) k ≡ Some d
+        → AnyByRecursion (Same cmp k) (keys_among (nodes_in g r))
     all_nodes g (high nothing) k d m n e = absurd (cc)
     all_nodes g (high (below t)) k d m n e = absurd n
     all_nodes g (node (below t) j c r) k d m n e = absurd n
     all_nodes g (node nothing j c r) k d m n e = go (get_parted cmp o [] j c (row_pairs r) k d m e) (all_nodes (part_behind g j) r k d m.1 n)
       where
-        go : IsParted cmp o [] j c (row_pairs r) k d → (get cmp (row_pairs r) k ≡ Some d → AnyByRecursion (Same cmp k) (keys_among (nodes_in (part_behind g j) r))) → AnyByRecursion (Same cmp k) (keys_among (nodes_in g (node nothing j c r)))
+        go : IsParted cmp o [] j c (row_pairs r) k d → (get cmp (row_pairs r) k ≡ Some d → AnyByRecursion (Same cmp k) (keys_among (nodes_in (part_behind g j) r)))
+            → AnyByRecursion (Same cmp k) (keys_among (nodes_in g (node nothing j c r)))
         go (inl (low, f)) more = absurd (cc)
         go (inr (inl (s, f))) more = inl s
         go (inr (inr (low, f))) more = inr (more f)
 
 module _ {K V H : Type 0} (laws : Laws K V H) (o : IsTotalOrder laws.cmp) (local : Side K V H) (format : PageFormat) where
   -- the gap is there, or the side has the page
-  new_gap_covers : (gap : Gap K) (digest : List ℕ) (new : List (Gap K)) (k : K) → IsNewGap laws local gap (Some digest) new → IsInGap laws.cmp k gap → AnyByRecursion (IsInGap laws.cmp k) new ⊎ HasPage laws local digest
+  new_gap_covers : (gap : Gap K) (digest : List ℕ) (new : List (Gap K)) (k : K) → IsNewGap laws local gap (Some digest) new → IsInGap laws.cmp k gap
+      → AnyByRecursion (IsInGap laws.cmp k) new ⊎ HasPage laws local digest
   new_gap_covers gap digest new k a i = by new (gap_or_none laws local gap digest new a) (page_spared laws local gap digest new a)
     where
       by : (new : List (Gap K)) → IsGapOrNone laws local gap new → (new ≡ [] → HasPage laws local digest) → AnyByRecursion (IsInGap laws.cmp k) new ⊎ HasPage laws local digest
@@ -139,7 +150,8 @@ module _ {K V H : Type 0} (laws : Laws K V H) (o : IsTotalOrder laws.cmp) (local
       ⊎ (AnyByRecursion (IsInGap laws.cmp k) new ⊎ ((t : Tree K (List ℕ)) × IsPageInRow t r × HasPage laws local (page_digest format laws.bytes_of t) × (get laws.cmp (pairs t) k ≡ Some d)))
 
   pub shown : (g h : Gap K) (r : Row K (List ℕ)) (ks : List K) (new : List (Gap K)) (k : K) (d : List ℕ) → IsMap laws.cmp (row_pairs r) → get laws.cmp (row_pairs r) k ≡ Some d
-      → SameKeys laws.cmp (keys_among (nodes_in laws.cmp o format laws.bytes_of g r)) ks → AreNewGaps laws local h ks (pages_beside None (items_in laws.cmp o format laws.bytes_of g r)) new → IsInGap laws.cmp k h → IsShown g r new k d
+      → SameKeys laws.cmp (keys_among (nodes_in laws.cmp o format laws.bytes_of g r)) ks
+      → AreNewGaps laws local h ks (pages_beside None (items_in laws.cmp o format laws.bytes_of g r)) new → IsInGap laws.cmp k h → IsShown g r new k d
   shown g h (high nothing) ks new k d m e s a i = absurd (cc)
   shown g h (high (below t)) (j ∷ ks) new k d m e s a i = absurd s
   shown g h (high (below t)) [] new k d m e s a i = go (new_gap_covers h (page_digest format laws.bytes_of t) new k a i)
@@ -153,7 +165,8 @@ module _ {K V H : Type 0} (laws : Laws K V H) (o : IsTotalOrder laws.cmp) (local
   shown g h (node nothing j c r) [] new k d m e s a i = absurd s
   shown g h (node (below t) j c r) [] new k d m e s a i = absurd s
   shown g h (node nothing j c r) (x ∷ ks) new k d m e s (first, rest, one, more, q) i =
-      go (get_parted laws.cmp o [] j c (row_pairs r) k d m e) (λ low f. shown (part_behind g j) (part_behind h x) r ks rest k d m.1 f s.1 more (up_low laws.cmp o x j k (same_down laws.cmp o j x s.0) low, i.1))
+      go (get_parted laws.cmp o [] j c (row_pairs r) k d m e)
+      (λ low f. shown (part_behind g j) (part_behind h x) r ks rest k d m.1 f s.1 more (up_low laws.cmp o x j k (same_down laws.cmp o j x s.0) low, i.1))
     where
       then_rest : IsShown (part_behind g j) r rest k d → IsShown g (node nothing j c r) new k d
       then_rest (inl b) = inl (inr b)
@@ -180,7 +193,8 @@ module _ {K V H : Type 0} (laws : Laws K V H) (o : IsTotalOrder laws.cmp) (local
       then_held f (inl b) = inr (inl (subst (AnyByRecursion (IsInGap laws.cmp k)) (sym q) (any-append (IsInGap laws.cmp k) first rest (inl b))))
       then_held f (inr p) = inr (inr (t, inl (here t), p, f))
 
-      go : IsParted laws.cmp o (pairs t) j c (row_pairs r) k d → (Below laws.cmp j k → get laws.cmp (row_pairs r) k ≡ Some d → IsShown (part_behind g j) r rest k d) → IsShown g (node (below t) j c r) new k d
+      go : IsParted laws.cmp o (pairs t) j c (row_pairs r) k d → (Below laws.cmp j k → get laws.cmp (row_pairs r) k ≡ Some d → IsShown (part_behind g j) r rest k d)
+          → IsShown g (node (below t) j c r) new k d
       go (inl (low, f)) rest_of = then_held f (new_gap_covers (part_before h x) (page_digest format laws.bytes_of t) first k one (i.0, low_up laws.cmp o k j x low (same_up laws.cmp o j x s.0)))
       go (inr (inl (t, f))) rest_of = inl (inl t)
       go (inr (inr (low, f))) rest_of = then_rest (rest_of low f)

@@ -46,7 +46,8 @@ pub record TellsOwnPages {K V H : Type 0} (laws : Laws K V H) (local : Side K V 
   pub alike : (g h : Gap K) (d : List ℕ) → SameGap laws.cmp g h → is_there g d ≡ is_there h d
 
 module _ {K V H : Type 0} (laws : Laws K V H) (o : IsTotalOrder laws.cmp) (local : Side K V H) (format : PageFormat)
-    (one_digest : (t u : Tree K (List ℕ)) → SamePages laws.cmp t u → page_digest format laws.bytes_of t ≡ page_digest format laws.bytes_of u) (is_there : Gap K → List ℕ → Bool) (tells : TellsOwnPages laws local is_there) where
+    (one_digest : (t u : Tree K (List ℕ)) → SamePages laws.cmp t u → page_digest format laws.bytes_of t ≡ page_digest format laws.bytes_of u)
+    (is_there : Gap K → List ℕ → Bool) (tells : TellsOwnPages laws local is_there) where
   abbrev pub lacked : Gap K → Tree K (List ℕ) → ℕ
   lacked = lacked_pages format laws.bytes_of is_there
 
@@ -109,7 +110,8 @@ module _ {K V H : Type 0} (laws : Laws K V H) (o : IsTotalOrder laws.cmp) (local
     lacked_filled g t f = ap (where_found g) (filled_opens laws.cmp o g t tree up f)
 
     -- the gap of a page that is told by its digest
-    new_lacked : (g h : Gap K) (t : Tree K (List ℕ)) (new : List (Gap K)) → Fills laws.cmp g t tree → SameGap laws.cmp g h → IsNewGap laws local h (Some (page_digest format laws.bytes_of t)) new → total (over tree) new ≤ in_held g (below t)
+    new_lacked : (g h : Gap K) (t : Tree K (List ℕ)) (new : List (Gap K)) → Fills laws.cmp g t tree → SameGap laws.cmp g h
+        → IsNewGap laws local h (Some (page_digest format laws.bytes_of t)) new → total (over tree) new ≤ in_held g (below t)
     new_lacked g h t new f s (inl (none, own)) = subst (λ gs. total (over tree) gs ≤ in_held g (below t)) (sym none) (omega arith)
     new_lacked g h t new f s (inr (one, lacks)) = by (which (is_there g (page_digest format laws.bytes_of t)))
       where
@@ -125,7 +127,8 @@ module _ {K V H : Type 0} (laws : Laws K V H) (o : IsTotalOrder laws.cmp) (local
         by (inr n) = absurd (lacks (tells.there h (page_digest format laws.bytes_of t) (sym (tells.alike g h (page_digest format laws.bytes_of t) s) ∙ n)))
 
     -- those of the pages of a row
-    row_lacked : (lev : K → ℕ) (l : ℕ) (g h : Gap K) (r : Row K (List ℕ)) (ks : List K) (new : List (Gap K)) → IsRow lev l r → pairs_within laws.cmp g (pairs tree) ≡ row_pairs r → IsMap laws.cmp (row_pairs r)
+    row_lacked : (lev : K → ℕ) (l : ℕ) (g h : Gap K) (r : Row K (List ℕ)) (ks : List K) (new : List (Gap K)) → IsRow lev l r
+        → pairs_within laws.cmp g (pairs tree) ≡ row_pairs r → IsMap laws.cmp (row_pairs r)
         → ((s : Tree K (List ℕ)) → IsPageInRow s r → IsPageIn s tree) → SameGap laws.cmp g h → SameKeys laws.cmp (keys_among (nodes_in laws.cmp o format laws.bytes_of g r)) ks
         → AreNewGaps laws local h ks (pages_beside None (items_in laws.cmp o format laws.bytes_of g r)) new → total (over tree) new ≤ in_row g r
     row_lacked lev l g h (high q) (x ∷ ks) new c all m i s k a = absurd (none q k)
@@ -152,17 +155,20 @@ module _ {K V H : Type 0} (laws : Laws K V H) (o : IsTotalOrder laws.cmp) (local
           arith,
           total-append (over tree) first rest,
           new_lacked (part_before g j) (part_before h x) t first fills (s.0, k.0) one,
-          row_lacked lev l (part_behind g j) (part_behind h x) r ks rest c.2 (part_behind_all laws.cmp o g tree (pairs t) j e (row_pairs r) m all) (map-rest laws.cmp (pairs t) ((j, e) ∷ row_pairs r) m).1 (λ s u. i s (inr u)) (k.0, s.1) k.1 more,
+          row_lacked lev l (part_behind g j) (part_behind h x) r ks rest c.2 (part_behind_all laws.cmp o g tree (pairs t) j e (row_pairs r) m all)
+              (map-rest laws.cmp (pairs t) ((j, e) ∷ row_pairs r) m).1 (λ s u. i s (inr u)) (k.0, s.1) k.1 more,
         ))
 
     -- the gaps that are asked for of a page that was told
     pub parts_lacked : (lev : K → ℕ) → IsCanonicalRoot lev tree → (g h : Gap K) (u : Tree K (List ℕ)) (ks : List K) (new : List (Gap K)) → Fills laws.cmp g u tree → SameGap laws.cmp g h
-        → SameKeys laws.cmp (keys_among (nodes_among (outline_over format laws.bytes_of laws.cmp tree g))) ks → AreNewGaps laws local h ks (pages_beside None (outline_over format laws.bytes_of laws.cmp tree g)) new
+        → SameKeys laws.cmp (keys_among (nodes_among (outline_over format laws.bytes_of laws.cmp tree g))) ks
+        → AreNewGaps laws local h ks (pages_beside None (outline_over format laws.bytes_of laws.cmp tree g)) new
         → total (over tree) new + 1 ≤ lacked g u
     parts_lacked lev canonical g h (page l c r) ks new f s k a =
         let is = ap (outline_where format laws.bytes_of g) (filled_opens laws.cmp o g (page l c r) tree up f) in
         omega (
           arith,
-          row_lacked lev l g h r ks new (page_canonical lev (page l c r) tree canonical f.inside f.some) f.all (map_inside laws.cmp o (page l c r) tree up f.inside) (λ s j. page_in s (page l c r) tree (inr j) f.inside) s
+          row_lacked lev l g h r ks new (page_canonical lev (page l c r) tree canonical f.inside f.some) f.all (map_inside laws.cmp o (page l c r) tree up f.inside)
+              (λ s j. page_in s (page l c r) tree (inr j) f.inside) s
               (subst (λ xs. SameKeys laws.cmp (keys_among (nodes_among xs)) ks) is k) (subst (λ xs. AreNewGaps laws local h ks (pages_beside None xs) new) is a),
         )

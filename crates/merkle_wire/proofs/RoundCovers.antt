@@ -86,13 +86,16 @@ module _ {K V H : Type 0} (laws : Laws K V H) (o : IsTotalOrder laws.cmp) (eqv :
       go (inr n) = absurd (not_there k j d l s of_peer (is_that (get laws.cmp (tree_map laws local) j) d n))
 
   -- nodes of the peer of which one is missing
-  pub new_keys_cover : (nodes : List (K × List ℕ)) (k : K) → Lacked k → AllByRecursion (λ n. get laws.cmp (tree_map laws peer) n.0 ≡ Some n.1) nodes → AnyByRecursion (Same laws.cmp k) (keys_among nodes) → AnyByRecursion (Same laws.cmp k) (new_keys laws local nodes)
+  pub new_keys_cover : (nodes : List (K × List ℕ)) (k : K) → Lacked k → AllByRecursion (λ n. get laws.cmp (tree_map laws peer) n.0 ≡ Some n.1) nodes
+      → AnyByRecursion (Same laws.cmp k) (keys_among nodes) → AnyByRecursion (Same laws.cmp k) (new_keys laws local nodes)
   new_keys_cover nodes k l a s =
       any-map (Same laws.cmp k) (λ n. n.0) (filter (λ n. not (has_digest laws local n.0 n.1)) nodes)
-      (any-filter (λ n. Same laws.cmp k n.0) (λ n. get laws.cmp (tree_map laws peer) n.0 ≡ Some n.1) (λ n. not (has_digest laws local n.0 n.1)) (λ n t of_peer. no_digest k n.0 n.1 l t of_peer) nodes a (any-unmap (Same laws.cmp k) (λ n. n.0) nodes s))
+      (any-filter (λ n. Same laws.cmp k n.0) (λ n. get laws.cmp (tree_map laws peer) n.0 ≡ Some n.1) (λ n. not (has_digest laws local n.0 n.1))
+      (λ n t of_peer. no_digest k n.0 n.1 l t of_peer) nodes a (any-unmap (Same laws.cmp k) (λ n. n.0) nodes s))
 
   -- of nodes of which one is missing the side doesn't have all, up to equal keys
-  none_lacked : (nodes : List (K × List ℕ)) (keys : List K) (k : K) → Lacked k → AllByRecursion (λ n. get laws.cmp (tree_map laws peer) n.0 ≡ Some n.1) nodes → SameKeys laws.cmp (keys_among nodes) keys
+  none_lacked : (nodes : List (K × List ℕ)) (keys : List K) (k : K) → Lacked k → AllByRecursion (λ n. get laws.cmp (tree_map laws peer) n.0 ≡ Some n.1) nodes
+      → SameKeys laws.cmp (keys_among nodes) keys
       → map (get laws.cmp (tree_map laws local)) keys ≡ map Some (map (λ n. n.1) nodes) → AnyByRecursion (Same laws.cmp k) (keys_among nodes) → ⊥
   none_lacked [] keys k l a s e i = i
   none_lacked (n ∷ ns) [] k l a s e i = absurd s
@@ -104,7 +107,8 @@ module _ {K V H : Type 0} (laws : Laws K V H) (o : IsTotalOrder laws.cmp) (eqv :
       none_lacked ns js k l a.1 s.1 rest i
 
   -- what the side has at the keys of nodes it has at equal keys
-  own_at : (ns : List (Node K (List ℕ))) (keys : List K) → SameKeys laws.cmp (keys_among (map pair_of ns)) keys → map (λ n. get laws.cmp (tree_map laws local) n.key) ns ≡ map (get laws.cmp (tree_map laws local)) keys
+  own_at : (ns : List (Node K (List ℕ))) (keys : List K) → SameKeys laws.cmp (keys_among (map pair_of ns)) keys
+      → map (λ n. get laws.cmp (tree_map laws local) n.key) ns ≡ map (get laws.cmp (tree_map laws local)) keys
   own_at [] [] s = refl
   own_at [] (k ∷ ks) s = absurd s
   own_at (n ∷ ns) [] s = absurd s
@@ -119,7 +123,8 @@ module _ {K V H : Type 0} (laws : Laws K V H) (o : IsTotalOrder laws.cmp) (eqv :
   digests_at (n ∷ ns) = ap (λ ds. n.digest ∷ ds) (digests_at ns)
 
   -- of the nodes of a page of which one is missing the side doesn't have all with the digest of these nodes, while digests are faithful
-  pub has_not_all : HaveFaithfulNodes laws local peer → (s : Tree K (List ℕ)) → IsPageOf laws.cmp (laws.key_digest peer.hasher) peer.base s (tree_map laws peer) → (nodes : List (K × List ℕ)) → nodes ≡ map pair_of (nodes_of s)
+  pub has_not_all : HaveFaithfulNodes laws local peer → (s : Tree K (List ℕ)) → IsPageOf laws.cmp (laws.key_digest peer.hasher) peer.base s (tree_map laws peer)
+      → (nodes : List (K × List ℕ)) → nodes ≡ map pair_of (nodes_of s)
       → (keys : List K) (digest : List ℕ) (k : K) → Lacked k → AllByRecursion (λ n. get laws.cmp (tree_map laws peer) n.0 ≡ Some n.1) nodes
       → SameKeys laws.cmp (keys_among nodes) keys → digest ≡ nodes_digest nodes → HasNodes laws local keys digest → AnyByRecursion (Same laws.cmp k) (keys_among nodes) → ⊥
   has_not_all faithful s of_peer nodes are keys digest k l a same_keys q (ds, own, is) i =
@@ -140,7 +145,8 @@ module _ {K V H : Type 0} (laws : Laws K V H) (o : IsTotalOrder laws.cmp) (eqv :
   rows_at_theirs (k ∷ ks) rows (inr (row, rest, s, there, a, e)) =
       subst (AllByRecursion Theirs) (sym e) ((row.1, get_same laws.cmp o peer.rows row.0 k s ∙ there, eqv.refl row.1), rows_at_theirs ks rest a)
 
-  pub rows_at_cover : (ks : List K) (rows : List (K × V)) (k : K) → (get laws.cmp peer.rows k ≡ None → ⊥) → AreRowsAt laws.cmp peer.rows ks rows → AnyByRecursion (Same laws.cmp k) ks → AnyByRecursion (λ r. Same laws.cmp k r.0) rows
+  pub rows_at_cover : (ks : List K) (rows : List (K × V)) (k : K) → (get laws.cmp peer.rows k ≡ None → ⊥) → AreRowsAt laws.cmp peer.rows ks rows
+      → AnyByRecursion (Same laws.cmp k) ks → AnyByRecursion (λ r. Same laws.cmp k r.0) rows
   rows_at_cover [] rows k some a i = absurd i
   rows_at_cover (j ∷ ks) rows k some (inl (none, a)) (inl s) = absurd (some (get_same laws.cmp o peer.rows k j s ∙ none))
   rows_at_cover (j ∷ ks) rows k some (inl (none, a)) (inr i) = rows_at_cover ks rows k some a i
@@ -186,4 +192,5 @@ module _ {K V H : Type 0} (laws : Laws K V H) (o : IsTotalOrder laws.cmp) (eqv :
       passes : (r : K × V) → Same laws.cmp k r.0 → Theirs r → not (has_row laws local r) ≡ true
       passes r s (v, there, e) =
           no_digest k r.0 (laws.value_digest local.hasher r.1) l s
-          (get_digests laws.cmp o (laws.value_digest peer.hasher) peer.rows r.0 ∙ ap (option_map (laws.value_digest peer.hasher)) there ∙ ap Some (sym (respects local.hasher r.1 v e ∙ alike r.0 v there)))
+          (get_digests laws.cmp o (laws.value_digest peer.hasher) peer.rows r.0 ∙ ap (option_map (laws.value_digest peer.hasher)) there
+          ∙ ap Some (sym (respects local.hasher r.1 v e ∙ alike r.0 v there)))

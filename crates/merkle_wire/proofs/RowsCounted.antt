@@ -8,14 +8,14 @@ use Rattle.merkle_replica.specs.Contents.{Side}
 use Rattle.merkle_replica.specs.Laws.{Laws}
 use Rattle.merkle_tree_theory.specs.Gap.{Gap, SameGap, part_behind}
 use Rattle.merkle_wire.specs.Coming.{AscendIn}
-use Rattle.merkle_wire.specs.Steady.{IsKeyOf, rows_in, times_at, times_in, total}
+use Rattle.merkle_wire.specs.Steady.{IsKeyOf, count_in, times_at, times_in, total}
 use Rattle.merkle_wire.specs.Taking.{AreNewGaps}
 use Rattle.merkle_wire.proofs.StepCovers.{is_key}
 use Rattle.merkle_wire.proofs.Times.{ascend_and_behind, ascend_times, in-alike, new_gaps_times, total-less, total-plus, total-swap}
 
 module _ {K V H : Type 0} (laws : Laws K V H) (o : IsTotalOrder laws.cmp) (local : Side K V H) (rows : List (K × V)) where
   abbrev pub In : Gap K → ℕ
-  In = rows_in laws.cmp rows
+  In = count_in laws.cmp rows
 
   abbrev pub AreKeys : List K → Type 0
   AreKeys = AllByRecursion (IsKeyOf laws.cmp rows)
@@ -43,7 +43,8 @@ module _ {K V H : Type 0} (laws : Laws K V H) (o : IsTotalOrder laws.cmp) (local
       )
 
   -- with the rows in the gaps between them, or after the last
-  pub parts_counted : (g : Gap K) (ks : List K) (pages : List (Option (List ℕ))) (new : List (Gap K)) → AreNewGaps laws local g ks pages new → AscendIn laws.cmp g ks → AreKeys ks → total In new + length ks ≤ In g
+  pub parts_counted : (g : Gap K) (ks : List K) (pages : List (Option (List ℕ))) (new : List (Gap K)) → AreNewGaps laws local g ks pages new → AscendIn laws.cmp g ks
+      → AreKeys ks → total In new + length ks ≤ In g
   parts_counted g ks pages new is up a =
       omega (
         arith,
@@ -51,10 +52,12 @@ module _ {K V H : Type 0} (laws : Laws K V H) (o : IsTotalOrder laws.cmp) (local
         total-swap (λ (r : K × V) j. times_at laws.cmp r.0 j) rows ks,
         total-swap (λ (r : K × V) h. times_in laws.cmp r.0 h) rows new,
         total-plus (λ (r : K × V). total (times_in laws.cmp r.0) new) (λ r. total (times_at laws.cmp r.0) ks) rows,
-        total-less (λ (r : K × V). total (times_in laws.cmp r.0) new + total (times_at laws.cmp r.0) ks) (λ r. times_in laws.cmp r.0 g) (λ r. new_gaps_times laws o local r.0 g ks pages new is up) rows,
+        total-less (λ (r : K × V). total (times_in laws.cmp r.0) new + total (times_at laws.cmp r.0) ks) (λ r. times_in laws.cmp r.0 g)
+            (λ r. new_gaps_times laws o local r.0 g ks pages new is up) rows,
       )
 
-  pub behind_counted : (g : Gap K) (row : K × V) (more : List (K × V)) → AscendIn laws.cmp g (map (λ r. r.0) (row ∷ more)) → AreKeys (map (λ r. r.0) (row ∷ more)) → 1 + In (part_behind g (last_key row.0 more)) ≤ In g
+  pub behind_counted : (g : Gap K) (row : K × V) (more : List (K × V)) → AscendIn laws.cmp g (map (λ r. r.0) (row ∷ more)) → AreKeys (map (λ r. r.0) (row ∷ more))
+      → 1 + In (part_behind g (last_key row.0 more)) ≤ In g
   behind_counted g row more up a =
       let ks = map (λ (r : K × V). r.0) (row ∷ more) in
       let behind = part_behind g (last_key row.0 more) in

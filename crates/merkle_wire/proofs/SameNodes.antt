@@ -42,8 +42,10 @@ module _ {K : Type 0} (cmp : K → K → Ordering) (o : IsTotalOrder cmp) where
       row_over-same t u (high h) (node i j e s) q p = absurd p
       row_over-same t u (node h k d r) (high i) q p = absurd p
       row_over-same t u (node h k d r) (node i j e s) q p =
-          subst (λ b. SameFound (row_over cmp g t (node h k d r)) (if b then (if (is_before cmp g.before j) then (Some u) else (held_over cmp g i)) else (row_over cmp g u s))) (after-same g.after k j p.1)
-          (subst (λ c. SameFound (row_over cmp g t (node h k d r)) (if (is_after cmp g.after k) then (if c then (Some u) else (held_over cmp g i)) else (row_over cmp g u s))) (before-same g.before k j p.1)
+          subst (λ b. SameFound (row_over cmp g t (node h k d r))
+          (if b then (if (is_before cmp g.before j) then (Some u) else (held_over cmp g i)) else (row_over cmp g u s))) (after-same g.after k j p.1)
+          (subst (λ c. SameFound (row_over cmp g t (node h k d r))
+          (if (is_after cmp g.after k) then (if c then (Some u) else (held_over cmp g i)) else (row_over cmp g u s))) (before-same g.before k j p.1)
           (by (is_after cmp g.after k) (is_before cmp g.before k) (held_over-same h i p.0) (row_over-same t u r s q p.3)))
         where
           by : (a b : Bool) → SameFound (held_over cmp g h) (held_over cmp g i) → SameFound (row_over cmp g t r) (row_over cmp g u s)
@@ -78,12 +80,14 @@ module _ {K : Type 0} (cmp : K → K → Ordering) (o : IsTotalOrder cmp) where
     keys_over-same root tree g h q s =
         by (page_over cmp g root) (page_over cmp h tree) (subst (SameFound (page_over cmp g root)) (page_over-alike cmp o g h s tree) (over-same g root tree q))
       where
-        by : (x y : Option (Tree K (List ℕ))) → SameFound x y → SameKeys cmp (keys_among (nodes_among (outline_where format bytes_of g x))) (keys_among (nodes_among (outline_where format bytes_of h y)))
+        by : (x y : Option (Tree K (List ℕ))) → SameFound x y → SameKeys cmp (keys_among (nodes_among (outline_where format bytes_of g x)))
+            (keys_among (nodes_among (outline_where format bytes_of h y)))
         by None None f = tt
         by None (Some u) f = absurd f
         by (Some t) None f = absurd f
         by (Some (page l c r)) (Some (page m e w)) f = nodes-same g h r w f.2
 
     -- a key of a node of the one is that of a node of the other
-    pub node_over-same : (root tree : Tree K (List ℕ)) (g h : Gap K) (k : K) → SamePages cmp root tree → SameGap cmp g h → AnyByRecursion (Same cmp k) (keys_over root g) → AnyByRecursion (Same cmp k) (keys_over tree h)
+    pub node_over-same : (root tree : Tree K (List ℕ)) (g h : Gap K) (k : K) → SamePages cmp root tree → SameGap cmp g h → AnyByRecursion (Same cmp k) (keys_over root g)
+        → AnyByRecursion (Same cmp k) (keys_over tree h)
     node_over-same root tree g h k q s = any-same cmp (Same cmp k) (Same cmp k) (λ a b t f. o.congr k a b f ∙ t) (keys_over root g) (keys_over tree h) (keys_over-same root tree g h q s)

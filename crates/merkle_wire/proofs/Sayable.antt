@@ -26,7 +26,7 @@ use Rattle.merkle_wire.specs.Coming.{AscendBetween, AscendIn}
 use Rattle.merkle_wire.specs.Fit.{IsOutlineIn, IsPartIn, Says}
 use Rattle.merkle_wire.specs.Gaps.{owned_gap}
 use Rattle.merkle_wire.specs.Outlines.{Outline, rows_told, digests_told, page_told, IsTold, keys_among, nodes_among}
-use Rattle.merkle_wire.specs.Replies.{Answers, IsPartOf, Part}
+use Rattle.merkle_wire.specs.Replies.{TellsFirst, IsPartOf, Part}
 use Rattle.merkle_wire.specs.RowsAt.{AreRowsAt}
 use Rattle.merkle_wire.specs.Steady.{CanBeTold}
 use Rattle.merkle_wire.specs.declared.gaps.OwnedGap.{OwnedGap}
@@ -40,7 +40,8 @@ use Rattle.merkle_wire.proofs.TellingReplies.{Fits}
 
 module _ {K : Type 0} (cmp : K → K → Ordering) (o : IsTotalOrder cmp) where
   -- what is above a key that parts a gap, and in the gap, is after the key
-  behind_each : {X : Type 0} (g : Gap K) (k : K) (ps : List (K × X)) → AllByRecursion (λ p. Below cmp k p.0) ps → AllByRecursion (λ p. IsInGap cmp p.0 g) ps → AllByRecursion (λ p. IsInGap cmp p.0 (part_behind g k)) ps
+  behind_each : {X : Type 0} (g : Gap K) (k : K) (ps : List (K × X)) → AllByRecursion (λ p. Below cmp k p.0) ps → AllByRecursion (λ p. IsInGap cmp p.0 g) ps
+      → AllByRecursion (λ p. IsInGap cmp p.0 (part_behind g k)) ps
   behind_each g k ps = each-both (λ p. Below cmp k p.0) (λ p. IsInGap cmp p.0 g) (λ p. IsInGap cmp p.0 (part_behind g k)) ps (λ p low inside. (low, inside.1))
 
   -- the keys of a map that are all in a gap ascend in it
@@ -54,12 +55,14 @@ module _ {K : Type 0} (cmp : K → K → Ordering) (o : IsTotalOrder cmp) where
   from_below a b k (j ∷ ks) after up = (after_low cmp o a k j after up.0, up.1, up.2)
 
   -- the rows at keys that ascend do
-  rows_ascend : {V : Type 0} (rows : List (K × V)) (a b : Option K) (ks : List K) (found : List (K × V)) → AscendBetween cmp a b ks → AreRowsAt cmp rows ks found → AscendBetween cmp a b (map (λ r. r.0) found)
+  rows_ascend : {V : Type 0} (rows : List (K × V)) (a b : Option K) (ks : List K) (found : List (K × V)) → AscendBetween cmp a b ks → AreRowsAt cmp rows ks found
+      → AscendBetween cmp a b (map (λ r. r.0) found)
   rows_ascend rows a b [] found up none = subst (λ rs. AscendBetween cmp a b (map (λ r. r.0) rs)) (sym none) tt
   rows_ascend rows a b (k ∷ ks) found up (inl (none, more)) = rows_ascend rows a b ks found (from_below a b k ks up.0 up.2) more
   rows_ascend rows a b (k ∷ ks) found up (inr (row, rest, same, there, more, e)) =
       let inside = in_gap-same cmp o (record { after = a; before = b }) k row.0 (tied_back o row.0 k same) (up.0, up.1) in
-      let above = ascend_between-same cmp o (Some k) (Some row.0) b b (map (λ r. r.0) rest) (map (λ r. r.0) rest) (tied_back o row.0 k same) (own_bound b) (own_keys cmp o (map (λ r. r.0) rest)) (rows_ascend rows (Some k) b ks rest up.2 more) in
+      let above = ascend_between-same cmp o (Some k) (Some row.0) b b (map (λ r. r.0) rest) (map (λ r. r.0) rest) (tied_back o row.0 k same) (own_bound b)
+      (own_keys cmp o (map (λ r. r.0) rest)) (rows_ascend rows (Some k) b ks rest up.2 more) in
       subst (λ rs. AscendBetween cmp a b (map (λ r. r.0) rs)) (sym e) (inside.0, inside.1, above)
     where
       own_bound : (c : Option K) → SameBound cmp c c
@@ -75,7 +78,8 @@ module _ {K : Type 0} (cmp : K → K → Ordering) (o : IsTotalOrder cmp) where
         by h (map-rest cmp (held_pairs h) ((k, d) ∷ row_pairs r) m) (each-behind (λ p. IsInGap cmp p.0 g) (held_pairs h) ((k, d) ∷ row_pairs r) a) (row_ascends (part_behind g k) r)
       where
         by : (q : Held K (List ℕ)) → IsMap cmp ((k, d) ∷ row_pairs r) → AllByRecursion (λ p. IsInGap cmp p.0 g) ((k, d) ∷ row_pairs r)
-            → (IsMap cmp (row_pairs r) → AllByRecursion (λ p. IsInGap cmp p.0 (part_behind g k)) (row_pairs r) → AscendIn cmp (part_behind g k) (keys_among (nodes_in cmp o format bytes_of (part_behind g k) r)))
+            → (IsMap cmp (row_pairs r) → AllByRecursion (λ p. IsInGap cmp p.0 (part_behind g k)) (row_pairs r)
+            → AscendIn cmp (part_behind g k) (keys_among (nodes_in cmp o format bytes_of (part_behind g k) r)))
             → AscendIn cmp g (keys_among (nodes_in cmp o format bytes_of g (node q k d r)))
         by nothing m a more = (a.0.0, a.0.1, more m.1 (behind_each g k (row_pairs r) m.0 a.1))
         by (below t) m a more = (a.0.0, a.0.1, more m.1 (behind_each g k (row_pairs r) m.0 a.1))
@@ -117,9 +121,11 @@ module _ {K V H : Type 0} (laws : Laws K V H) (o : IsTotalOrder laws.cmp) (is_ke
   rows_read (k ∷ ks) rows (inr (row, rest, same, there, more, e)) =
       subst (AllByRecursion (λ r. is_key r.0 × is_value r.1)) (sym e) (told.read row.0 row.1 (get_same laws.cmp o peer.rows row.0 k same ∙ there), rows_read ks rest more)
 
-  module _ (n : ℕ) (tree : Tree K (List ℕ)) (up : IsMap laws.cmp (pairs tree)) (nodes_peers : (g : Gap K) → AllByRecursion (λ m. get laws.cmp (tree_map laws peer) m.0 ≡ Some m.1) (nodes_among (outline_over peer.format laws.bytes_of laws.cmp tree g))) where
+  module _ (n : ℕ) (tree : Tree K (List ℕ)) (up : IsMap laws.cmp (pairs tree))
+      (nodes_peers : (g : Gap K) → AllByRecursion (λ m. get laws.cmp (tree_map laws peer) m.0 ≡ Some m.1) (nodes_among (outline_over peer.format laws.bytes_of laws.cmp tree g))) where
     -- what is told of a page that fills a gap can be told of one with equal bounds
-    pub outline_said : (with_pages : Bool) (g h : Gap K) (u : Tree K (List ℕ)) (x : Outline K V) → SameGap laws.cmp h g → Fills laws.cmp h u tree → IsTold laws.cmp peer.rows with_pages (outline_over peer.format laws.bytes_of laws.cmp tree h) x → Fits n x
+    pub outline_said : (with_pages : Bool) (g h : Gap K) (u : Tree K (List ℕ)) (x : Outline K V) → SameGap laws.cmp h g → Fills laws.cmp h u tree
+        → IsTold laws.cmp peer.rows with_pages (outline_over peer.format laws.bytes_of laws.cmp tree h) x → Fits n x
         → IsOutlineIn laws.cmp is_key is_value n with_pages g x
     outline_said with_pages g h u (rows_told rows) same f (none, are) fits = (
       ascend-alike laws.cmp o h g (map (λ r. r.0) rows) same
@@ -136,7 +142,8 @@ module _ {K V H : Type 0} (laws : Laws K V H) (o : IsTotalOrder laws.cmp) (is_ke
       (
         (λ none. filled_some laws.cmp o peer.format laws.bytes_of tree up h u f (sym are ∙ none)),
         ascend-alike laws.cmp o h g keys same (subst (AscendIn laws.cmp h) (sym are) (filled_ascends laws.cmp o peer.format laws.bytes_of tree up h u f)),
-        subst (AllByRecursion is_key) (sym are) (each-mapped (λ m. m.0) is_key (nodes_among (outline_over peer.format laws.bytes_of laws.cmp tree h)) (keys_read (nodes_among (outline_over peer.format laws.bytes_of laws.cmp tree h)) (nodes_peers h))),
+        subst (AllByRecursion is_key) (sym are) (each-mapped (λ m. m.0) is_key (nodes_among (outline_over peer.format laws.bytes_of laws.cmp tree h))
+            (keys_read (nodes_among (outline_over peer.format laws.bytes_of laws.cmp tree h)) (nodes_peers h))),
         fits.0,
         omega (arith, fits.1),
         fits.2,
@@ -144,12 +151,15 @@ module _ {K V H : Type 0} (laws : Laws K V H) (o : IsTotalOrder laws.cmp) (is_ke
     )
 
   -- rows of the peer in a gap, all or the first of them
-  pub part_said : (g : Gap K) (gap : OwnedGap K) (part : Part K V) → IsMap laws.cmp peer.rows → SameGap laws.cmp (owned_gap gap) g → IsPartOf laws.cmp peer.rows gap part → IsPartIn laws.cmp is_key is_value g part
+  pub part_said : (g : Gap K) (gap : OwnedGap K) (part : Part K V) → IsMap laws.cmp peer.rows → SameGap laws.cmp (owned_gap gap) g → IsPartOf laws.cmp peer.rows gap part
+      → IsPartIn laws.cmp is_key is_value g part
   part_said g gap part up same (more, begins, whole, some) = (
     (
       ascend-alike laws.cmp o (owned_gap gap) g (map (λ r. r.0) part.rows) same
-          (map_ascends laws.cmp o (owned_gap gap) part.rows (map-first laws.cmp part.rows more (subst (IsMap laws.cmp) begins (map_at laws.cmp o (λ k. is_in_gap laws.cmp k (owned_gap gap)) peer.rows up)))
-          (each-before (λ r. IsInGap laws.cmp r.0 (owned_gap gap)) part.rows more (subst (AllByRecursion (λ r. IsInGap laws.cmp r.0 (owned_gap gap))) begins (each_within laws.cmp (owned_gap gap) peer.rows)))),
+          (map_ascends laws.cmp o (owned_gap gap) part.rows
+          (map-first laws.cmp part.rows more (subst (IsMap laws.cmp) begins (map_at laws.cmp o (λ k. is_in_gap laws.cmp k (owned_gap gap)) peer.rows up)))
+          (each-before (λ r. IsInGap laws.cmp r.0 (owned_gap gap)) part.rows more
+          (subst (AllByRecursion (λ r. IsInGap laws.cmp r.0 (owned_gap gap))) begins (each_within laws.cmp (owned_gap gap) peer.rows)))),
       each-before (λ r. is_key r.0 × is_value r.1) part.rows more (subst (AllByRecursion (λ r. is_key r.0 × is_value r.1)) begins all),
     ),
     some,
@@ -169,7 +179,8 @@ module _ {X Y : Type 0} (E : X → X → Type 0) where
   abbrev Alike : X × Y → X × Y → Type 0
   Alike t u = E t.0 u.0 × (t.1 ≡ u.1)
 
-  pub told_again : (xs : List X) (us : List (X × Y)) (others : List X) → AllZip E xs (map (λ u. u.0) us ++ others) → (ts : List (X × Y)) × (left : List X) × (xs ≡ map (λ t. t.0) ts ++ left) × AllZip Alike ts us
+  pub told_again : (xs : List X) (us : List (X × Y)) (others : List X) → AllZip E xs (map (λ u. u.0) us ++ others) → (ts : List (X × Y)) × (left : List X)
+      × (xs ≡ map (λ t. t.0) ts ++ left) × AllZip Alike ts us
   told_again xs [] others s = ([], xs, refl, tt)
   told_again [] (u ∷ us) others s = absurd s
   told_again (x ∷ xs) (u ∷ us) others s = let (ts, left, e, r) = told_again xs us others s.1 in ((x, u.1) ∷ ts, left, ap (λ ys. x ∷ ys) e, ((s.0, refl), r))
@@ -198,7 +209,7 @@ module _ {X Y : Type 0} (E : X → X → Type 0) where
       some_asked (x ∷ xs) (y ∷ ys) s some e = absurd (cc)
 
       -- what answers one list says what can be said of the other
-      pub answers_say : (xs ys : List X) (us : List (X × Y)) → AllZip E xs ys → xs ≢ [] → AllByRecursion F xs → Answers Q ys us → Says P (flat_map bytes) xs (flat_map bytes us)
+      pub answers_say : (xs ys : List X) (us : List (X × Y)) → AllZip E xs ys → xs ≢ [] → AllByRecursion F xs → TellsFirst Q ys us → Says P (flat_map bytes) xs (flat_map bytes us)
       answers_say xs ys us s some f a =
           let (ts, left, begins, alike) = told_again xs us a.left (subst (AllZip E xs) a.begins s) in
           record {

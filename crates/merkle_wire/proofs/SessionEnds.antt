@@ -24,9 +24,9 @@ use Rattle.merkle_wire.specs.Gaps.{owned_gap}
 use Rattle.merkle_wire.specs.Messages.{front}
 use Rattle.merkle_wire.specs.Next.{AsksOrGoesOn, IsNext}
 use Rattle.merkle_wire.specs.Outlines.{Outline, rows_told, digests_told, page_told, IsTold, nodes_among}
-use Rattle.merkle_wire.specs.Replies.{Answers, IsPartOf, IsReply, Part, items_over, outlines_bytes, parts_bytes}
+use Rattle.merkle_wire.specs.Replies.{TellsFirst, IsPartOf, IsReply, Part, items_over, outlines_bytes, parts_bytes}
 use Rattle.merkle_wire.specs.Sessions.{IsRowOfPeer}
-use Rattle.merkle_wire.specs.Steady.{AsksForPages, IsFilled, IsKeyOf, IsSteady, LeavesLess, left_by, left_for, left_of, nodes_over, rows_in, times_in, total}
+use Rattle.merkle_wire.specs.Steady.{AsksForPages, IsFilled, IsKeyOf, IsSteady, LeavesLess, left_by, left_for, left_of, nodes_over, count_in, times_in, total}
 use Rattle.merkle_wire.specs.Taking.{AddsKeys, AreBehind, AreTaken, IsBehind, IsRootTaken, IsTaken, has_digest, new_keys}
 use Rattle.merkle_wire.specs.Underway.{AsksAgain, HasOutlines, HasParts, HasTaken, Underway}
 use Rattle.merkle_wire.specs.declared.catching_up.Next.{Next}
@@ -71,12 +71,13 @@ filter_length test (x ∷ xs) = go (which (test x)) (filter_length test xs)
     go (inr n) less = rw n (omega (arith, less))
 
 module _ {K V H : Type 0} (laws : Laws K V H) (o : IsTotalOrder laws.cmp) (eqv : IsEquivalence laws.eq) (encoding : K → List ℕ) (values : V → List ℕ) (tell : Tell laws encoding values) (n : ℕ)
-    (local : Side K V H) (peer : Contents K V H) (root : Tree K (List ℕ)) (sides : AreSides laws local (side peer) root peer.tree.root) (small : AllByRecursion (λ p. length p.1 ≡ n) (tree_map laws (side peer))) where
+    (local : Side K V H) (peer : Contents K V H) (root : Tree K (List ℕ)) (sides : AreSides laws local (side peer) root peer.tree.root)
+    (small : AllByRecursion (λ p. length p.1 ≡ n) (tree_map laws (side peer))) where
   abbrev tree : Tree K (List ℕ)
   tree = peer.tree.root
 
   abbrev rows_of : Gap K → ℕ
-  rows_of = rows_in laws.cmp peer.rows
+  rows_of = count_in laws.cmp peer.rows
 
   abbrev nodes_of : Gap K → ℕ
   nodes_of = nodes_over laws (side peer) root
@@ -106,7 +107,8 @@ module _ {K V H : Type 0} (laws : Laws K V H) (o : IsTotalOrder laws.cmp) (eqv :
       record {
         up = ascend-alike laws.cmp o h g (keys_of h) (same_gap-back laws.cmp o g h s) (filled_ascends laws.cmp o peer.tree.format laws.bytes_of tree up h u fh);
         keys = each-mapped (λ m. m.0) (IsKeyOf laws.cmp peer.rows) nodes
-            (each-with (λ m. get laws.cmp (tree_map laws (side peer)) m.0 ≡ Some m.1) (λ m. IsKeyOf laws.cmp peer.rows m.0) nodes (λ m e. of_tree laws o local (side peer) m.0 m.1 e) (nodes_peers laws o eqv local (side peer) root tree sides h));
+            (each-with (λ m. get laws.cmp (tree_map laws (side peer)) m.0 ≡ Some m.1) (λ m. IsKeyOf laws.cmp peer.rows m.0) nodes
+            (λ m e. of_tree laws o local (side peer) m.0 m.1 e) (nodes_peers laws o eqv local (side peer) root tree sides h));
         some = some_long (keys_of h) (filled_some laws.cmp o peer.tree.format laws.bytes_of tree up h u fh);
         as_many = same_keys_length laws.cmp _ (keys_of h) (keys_over-same laws.cmp o peer.tree.format laws.bytes_of root tree g h sides.same s);
       }
@@ -132,7 +134,11 @@ module _ {K V H : Type 0} (laws : Laws K V H) (o : IsTotalOrder laws.cmp) (eqv :
   own_left : (g h : Gap K) (own : List (Gap K)) → AreNodesOf g h → SameGap laws.cmp g h → IsGapOrNone laws local g own → total nodes_of own ≤ length (keys_of h)
   own_left g h [] nodes s one = omega arith
   own_left g h (x ∷ []) nodes s one =
-      omega (arith, same_keys_length laws.cmp _ (keys_of h) (keys_over-same laws.cmp o peer.tree.format laws.bytes_of root tree x h sides.same (same_gap-trans laws.cmp o x g h (same_gap-back laws.cmp o g x one) s)))
+      omega (
+        arith,
+        same_keys_length laws.cmp _ (keys_of h)
+            (keys_over-same laws.cmp o peer.tree.format laws.bytes_of root tree x h sides.same (same_gap-trans laws.cmp o x g h (same_gap-back laws.cmp o g x one) s)),
+      )
   own_left g h (x ∷ y ∷ others) nodes s one = absurd one
 
   -- what a question about the page over a gap leaves to ask for
@@ -141,7 +147,8 @@ module _ {K V H : Type 0} (laws : Laws K V H) (o : IsTotalOrder laws.cmp) (eqv :
   left_about false g = 2 * nodes_of g
 
   one_less : (with_pages : Bool) (g h : Gap K) (x y : Outline K V) (before after : Found K V) → AreNodesOf g h → SameGap laws.cmp g h → SameOutline laws.cmp laws.eq x y
-      → IsTold laws.cmp peer.rows with_pages (outline_over peer.tree.format laws.bytes_of laws.cmp tree h) y → LiesIn laws.cmp n g x → IsTaken laws local g x before after → left_found after + 1 ≤ left_found before + left_about with_pages g
+      → IsTold laws.cmp peer.rows with_pages (outline_over peer.tree.format laws.bytes_of laws.cmp tree h) y → LiesIn laws.cmp n g x → IsTaken laws local g x before after
+      → left_found after + 1 ≤ left_found before + left_about with_pages g
   one_less true g h (rows_told rs) y before after nodes s same told lies taken =
       omega (arith, ap left_found taken, nodes.some, ascending_counted laws o local peer.rows g (keys_of h) nodes.up nodes.keys)
   one_less true g h (digests_told ns) (digests_told ms) before after nodes s same (none, told) lies taken =
@@ -168,7 +175,15 @@ module _ {K V H : Type 0} (laws : Laws K V H) (o : IsTotalOrder laws.cmp) (eqv :
       ))
   one_less false g h (rows_told rs) y before after nodes s same told lies taken = omega (arith, ap left_found taken, nodes.some, nodes.as_many)
   one_less false g h (digests_told ns) (digests_told ms) before after nodes s same (none, told) lies taken =
-      omega (arith, keys_added before after ns taken, same_nodes_length ns ms same, ap length told, length-map (nodes_among (outline_over peer.tree.format laws.bytes_of laws.cmp tree h)) (λ m. m.0), nodes.some, nodes.as_many)
+      omega (
+        arith,
+        keys_added before after ns taken,
+        same_nodes_length ns ms same,
+        ap length told,
+        length-map (nodes_among (outline_over peer.tree.format laws.bytes_of laws.cmp tree h)) (λ m. m.0),
+        nodes.some,
+        nodes.as_many,
+      )
   one_less false g h (page_told c js ps) (page_told d ks qs) before after nodes s same told lies taken = let never : false ≡ true = told.0 in absurd (cc)
   one_less true g h (digests_told ns) (rows_told ss) before after nodes s same told lies taken = absurd same
   one_less true g h (digests_told ns) (page_told d ks qs) before after nodes s same told lies taken = absurd same
@@ -183,8 +198,10 @@ module _ {K V H : Type 0} (laws : Laws K V H) (o : IsTotalOrder laws.cmp) (eqv :
   Filled rounds g = IsFilled laws (side peer) root 257 rounds (owned_gap g)
 
   outlines_less : (with_pages : Bool) (rounds : ℕ) (ts us : List (OwnedGap K × Outline K V)) (before after : Found K V) → AllByRecursion (Filled rounds) (map (λ t. t.0) ts)
-      → AllZip (λ t u. SameGapTold laws.cmp encoding t.0 u.0 × SameOutline laws.cmp laws.eq t.1 u.1) ts us → AllByRecursion (λ u. IsTold laws.cmp peer.rows with_pages (items_over laws.cmp laws.bytes_of peer.tree u.0) u.1) us
-      → AllByRecursion (λ t. LiesIn laws.cmp n (owned_gap t.0) t.1) ts → AreTaken laws local ts before after → left_found after + length ts ≤ left_found before + total (λ g. left_about with_pages (owned_gap g)) (map (λ t. t.0) ts)
+      → AllZip (λ t u. SameGapTold laws.cmp encoding t.0 u.0 × SameOutline laws.cmp laws.eq t.1 u.1) ts us
+      → AllByRecursion (λ u. IsTold laws.cmp peer.rows with_pages (items_over laws.cmp laws.bytes_of peer.tree u.0) u.1) us
+      → AllByRecursion (λ t. LiesIn laws.cmp n (owned_gap t.0) t.1) ts → AreTaken laws local ts before after
+      → left_found after + length ts ≤ left_found before + total (λ g. left_about with_pages (owned_gap g)) (map (λ t. t.0) ts)
   outlines_less with_pages rounds [] us before after filled s told lies taken = omega (arith, ap left_found taken)
   outlines_less with_pages rounds (t ∷ ts) [] before after filled s told lies taken = absurd s
   outlines_less with_pages rounds (t ∷ ts) (u ∷ us) before after filled s told lies (mid, one, more) =
@@ -201,7 +218,8 @@ module _ {K V H : Type 0} (laws : Laws K V H) (o : IsTotalOrder laws.cmp) (eqv :
   Again None = 0
   Again (Some question) = By question
 
-  again_left : {X : Type 0} (ask : Vec X → Question K) (weight : List X → ℕ) (left : List X) (again : Option (Question K)) → ((xs : Vec X) → By (ask xs) ≡ weight xs.items) → AsksAgain ask left again → Again again ≤ weight left
+  again_left : {X : Type 0} (ask : Vec X → Question K) (weight : List X → ℕ) (left : List X) (again : Option (Question K))
+      → ((xs : Vec X) → By (ask xs) ≡ weight xs.items) → AsksAgain ask left again → Again again ≤ weight left
   again_left ask weight left again is (inl (none, e)) = omega (arith, ap Again e)
   again_left ask weight left again is (inr (rest, items, some, e)) = omega (arith, ap Again e, is rest, ap weight items)
 
@@ -214,17 +232,22 @@ module _ {K V H : Type 0} (laws : Laws K V H) (o : IsTotalOrder laws.cmp) (eqv :
   twice (g ∷ gs) = omega (arith, twice gs)
 
   -- what was read of a reply is what was sent
-  pub lists_alike : (with_pages : Bool) (kind : Kind) (gaps gaps' left : List (OwnedGap K)) (reply : List ℕ) (before after : Found K V) (told' : List (OwnedGap K × Outline K V)) → AllZip (SameGapTold laws.cmp encoding) gaps gaps'
-      → (answers : Answers (λ g. IsTold laws.cmp peer.rows with_pages (items_over laws.cmp laws.bytes_of peer.tree g)) gaps' told') → reply ≡ front kind ++ outlines_bytes encoding values told'
-      → (has : HasOutlines laws n encoding values local (front kind) gaps reply before after left) → AllZip (λ t u. SameGapTold laws.cmp encoding t.0 u.0 × SameOutline laws.cmp laws.eq t.1 u.1) has.0 told'
+  pub lists_alike : (with_pages : Bool) (kind : Kind) (gaps gaps' left : List (OwnedGap K)) (reply : List ℕ) (before after : Found K V)
+      (told' : List (OwnedGap K × Outline K V)) → AllZip (SameGapTold laws.cmp encoding) gaps gaps'
+      → (answers : TellsFirst (λ g. IsTold laws.cmp peer.rows with_pages (items_over laws.cmp laws.bytes_of peer.tree g)) gaps' told') → reply ≡ front kind ++ outlines_bytes encoding values told'
+      → (has : HasOutlines laws n encoding values local (front kind) gaps reply before after left)
+      → AllZip (λ t u. SameGapTold laws.cmp encoding t.0 u.0 × SameOutline laws.cmp laws.eq t.1 u.1) has.0 told'
   lists_alike with_pages kind gaps gaps' left reply before after told' alike answers sent (told, read, some, are, lies, taken) =
       let bytes = (join_tells (front kind) (front kind) (outlines_bytes encoding values told) (outlines_bytes encoding values told') refl (sym read ∙ sent)).1 in
       outlines_tell laws.cmp laws.eq encoding values tell.keys tell.value (SameGapTold laws.cmp encoding) (λ g h e. e.1) n told told' left answers.left
-      (same_begin laws o eqv encoding values tell n local peer root sides small (SameGapTold laws.cmp encoding) gaps gaps' told told' left answers.left alike are answers.begins) (fits_read laws local n told before after lies taken)
+      (same_begin laws o eqv encoding values tell n local peer root sides small
+      (SameGapTold laws.cmp encoding) gaps gaps' told told' left answers.left alike are answers.begins) (fits_read laws local n told before after lies taken)
       (sent_fits laws o eqv encoding values tell n local peer root sides small with_pages told' answers.each) bytes
 
-  outlines_left : (with_pages : Bool) (kind : Kind) (rounds : ℕ) (gaps gaps' left : List (OwnedGap K)) (reply : List ℕ) (before after : Found K V) (told' : List (OwnedGap K × Outline K V)) → AllByRecursion (Filled rounds) gaps
-      → AllZip (SameGapTold laws.cmp encoding) gaps gaps' → Answers (λ g. IsTold laws.cmp peer.rows with_pages (items_over laws.cmp laws.bytes_of peer.tree g)) gaps' told' → reply ≡ front kind ++ outlines_bytes encoding values told'
+  outlines_left : (with_pages : Bool) (kind : Kind) (rounds : ℕ) (gaps gaps' left : List (OwnedGap K)) (reply : List ℕ) (before after : Found K V)
+      (told' : List (OwnedGap K × Outline K V)) → AllByRecursion (Filled rounds) gaps
+      → AllZip (SameGapTold laws.cmp encoding) gaps gaps' → TellsFirst (λ g. IsTold laws.cmp peer.rows with_pages (items_over laws.cmp laws.bytes_of peer.tree g)) gaps'
+      told' → reply ≡ front kind ++ outlines_bytes encoding values told'
       → HasOutlines laws n encoding values local (front kind) gaps reply before after left
       → left_found after + total (λ g. left_about with_pages (owned_gap g)) left + 1 ≤ left_found before + total (λ g. left_about with_pages (owned_gap g)) gaps
   outlines_left with_pages kind rounds gaps gaps' left reply before after told' filled alike answers sent (told, read, some, are, lies, taken) =
@@ -235,14 +258,16 @@ module _ {K V H : Type 0} (laws : Laws K V H) (o : IsTotalOrder laws.cmp) (eqv :
         some_long told some,
         ap (total about) are,
         total-append about (map (λ t. t.0) told) left,
-        outlines_less with_pages rounds told told' before after (each-before (Filled rounds) (map (λ t. t.0) told) left (subst (AllByRecursion (Filled rounds)) are filled)) lists answers.each lies taken,
+        outlines_less with_pages rounds told told' before after
+            (each-before (Filled rounds) (map (λ t. t.0) told) left (subst (AllByRecursion (Filled rounds)) are filled)) lists answers.each lies taken,
       )
 
   -- parts of the rows in gaps
   abbrev in_gaps : List (OwnedGap K) → ℕ
   in_gaps gaps = total (λ g. rows_of (owned_gap g)) gaps + length gaps
 
-  part_less : (t : OwnedGap K × Part K V) (left : List (OwnedGap K)) → AscendIn laws.cmp (owned_gap t.0) (map (λ r. r.0) t.1.rows) → Keys (map (λ r. r.0) t.1.rows) → IsBehind laws.cmp (owned_gap t.0) t.1 left
+  part_less : (t : OwnedGap K × Part K V) (left : List (OwnedGap K)) → AscendIn laws.cmp (owned_gap t.0) (map (λ r. r.0) t.1.rows) → Keys (map (λ r. r.0) t.1.rows)
+      → IsBehind laws.cmp (owned_gap t.0) t.1 left
       → in_gaps left ≤ rows_of (owned_gap t.0)
   part_less t left up keys (inl (all, none)) = subst (λ gs. in_gaps gs ≤ rows_of (owned_gap t.0)) (sym none) (omega arith)
   part_less t left up keys (inr (row, rows, own, some, are, same, is)) =
@@ -255,7 +280,8 @@ module _ {K V H : Type 0} (laws : Laws K V H) (o : IsTotalOrder laws.cmp) (eqv :
         behind_counted laws o local peer.rows (owned_gap t.0) row rows (subst (λ rs. AscendIn laws.cmp (owned_gap t.0) (to rs)) are up) (subst (λ rs. Keys (to rs)) are keys),
       ))
 
-  parts_less : (ts : List (OwnedGap K × Part K V)) (left : List (OwnedGap K)) → AllByRecursion (λ t. AscendIn laws.cmp (owned_gap t.0) (map (λ r. r.0) t.1.rows)) ts → AllByRecursion (λ r. IsKeyOf laws.cmp peer.rows r.0) (flat_map (λ t. t.1.rows) ts)
+  parts_less : (ts : List (OwnedGap K × Part K V)) (left : List (OwnedGap K)) → AllByRecursion (λ t. AscendIn laws.cmp (owned_gap t.0) (map (λ r. r.0) t.1.rows)) ts
+      → AllByRecursion (λ r. IsKeyOf laws.cmp peer.rows r.0) (flat_map (λ t. t.1.rows) ts)
       → AreBehind laws.cmp ts left → in_gaps left + length ts ≤ in_gaps (map (λ t. t.0) ts)
   parts_less [] left up keys none = subst (λ gs. in_gaps gs + 0 ≤ 0) (sym none) (omega arith)
   parts_less (t ∷ ts) left up keys (first, rest, one, more, e) =
@@ -271,12 +297,13 @@ module _ {K V H : Type 0} (laws : Laws K V H) (o : IsTotalOrder laws.cmp) (eqv :
       ))
 
   parts_left : (gaps gaps' left : List (OwnedGap K)) (reply : List ℕ) (before after : Found K V) (told' : List (OwnedGap K × Part K V)) → AllZip (SameGapTold laws.cmp encoding) gaps gaps'
-      → Answers (IsPartOf laws.cmp peer.rows) gaps' told' → reply ≡ front rows_in_kind ++ parts_bytes encoding values told' → HasParts laws n encoding values local gaps reply before after left
+      → TellsFirst (IsPartOf laws.cmp peer.rows) gaps' told' → reply ≡ front rows_in_kind ++ parts_bytes encoding values told' → HasParts laws n encoding values local gaps reply before after left
       → left_found after + in_gaps left + 1 ≤ left_found before + in_gaps gaps
   parts_left gaps gaps' left reply before after told' alike answers sent (told, behind, rest, read, some, are, up, are_behind, is_left, taken) =
       let bytes = (join_tells (front rows_in_kind) (front rows_in_kind) (parts_bytes encoding values told) (parts_bytes encoding values told') refl (sym read ∙ sent)).1 in
       let lists = parts_tell laws.cmp laws.eq encoding values tell.keys tell.value (SameGapTold laws.cmp encoding) (λ g h e. e.1) told told' rest answers.left
-      (same_begin laws o eqv encoding values tell n local peer root sides small (SameGapTold laws.cmp encoding) gaps gaps' told told' rest answers.left alike are answers.begins) (each-all (λ t. ⊤) told (λ t. tt)) (each-all (λ t. ⊤) told' (λ t. tt)) bytes in
+      (same_begin laws o eqv encoding values tell n local peer root sides small
+      (SameGapTold laws.cmp encoding) gaps gaps' told told' rest answers.left alike are answers.begins) (each-all (λ t. ⊤) told (λ t. tt)) (each-all (λ t. ⊤) told' (λ t. tt)) bytes in
       let rows = flat_map (λ (t : OwnedGap K × Part K V). t.1.rows) told in
       let theirs = parts_theirs laws o eqv local (side peer) root tree sides (SameGapTold laws.cmp encoding) (λ g h e. e.0) told told' lists answers.each in
       let keys = each-with (IsRowOfPeer laws local (side peer)) (λ r. IsKeyOf laws.cmp peer.rows r.0) rows (λ r (v, there, e). (v, there)) theirs in
@@ -308,13 +335,15 @@ module _ {K V H : Type 0} (laws : Laws K V H) (o : IsTotalOrder laws.cmp) (eqv :
       subst (λ f. left_found f + 1 ≤ left_found before + (3 * length peer.rows + 2)) (sym e) (omega (arith, all_rows peer.rows, total-append rows_of before.below (everywhere ∷ [])))
 
   -- a reply leaves less to ask for
-  taken_less : (digest_of : K → List ℕ) (u : Underway K V) (question : Question K) (reply : List ℕ) (after : Found K V) (again : Option (Question K)) → IsSteady laws (side peer) root u → SameQuestion laws.cmp encoding u.asked question
+  taken_less : (digest_of : K → List ℕ) (u : Underway K V) (question : Question K) (reply : List ℕ) (after : Found K V) (again : Option (Question K))
+      → IsSteady laws (side peer) root u → SameQuestion laws.cmp encoding u.asked question
       → IsReply laws.cmp laws.bytes_of encoding values digest_of n peer.rows peer.tree question reply → HasTaken laws n encoding values local u.asked reply u.found after again
       → left_found after + Again again + 1 ≤ left_found u.found + By u.asked
   taken_less digest_of u question reply after again s = by u.asked question s.asked
     where
       by : (asked question : Question K) → AsksForPages laws (side peer) root u.rounds asked → SameQuestion laws.cmp encoding asked question
-          → IsReply laws.cmp laws.bytes_of encoding values digest_of n peer.rows peer.tree question reply → HasTaken laws n encoding values local asked reply u.found after again → left_found after + Again again + 1 ≤ left_found u.found + By asked
+          → IsReply laws.cmp laws.bytes_of encoding values digest_of n peer.rows peer.tree question reply
+          → HasTaken laws n encoding values local asked reply u.found after again → left_found after + Again again + 1 ≤ left_found u.found + By asked
       by (Root a) (Root b) pages alike is (count, digest, read, taken, none) = omega (arith, ap Again none, root_left digest u.found after taken)
       by (Outlines m gs) (Outlines m' hs) pages alike (told', answers, sent) (left, has, asks) =
           omega (
@@ -333,7 +362,15 @@ module _ {K V H : Type 0} (laws : Laws K V H) (o : IsTotalOrder laws.cmp) (eqv :
             outlines_left false nodes_kind 0 gs.items hs.items left reply u.found after told' pages alike answers sent has,
           )
       by (RowsAt ws) (RowsAt xs) pages alike is (left, (told, read, some, are, taken), asks) =
-          omega (arith, again_left RowsAt length left again (λ ys. refl) asks, some_long told some, ap left_found taken, ap length are, length-append (map (λ t. t.0) told) left, length-map told (λ t. t.0))
+          omega (
+            arith,
+            again_left RowsAt length left again (λ ys. refl) asks,
+            some_long told some,
+            ap left_found taken,
+            ap length are,
+            length-append (map (λ t. t.0) told) left,
+            length-map told (λ t. t.0),
+          )
       by (RowsIn gs) (RowsIn hs) pages alike (told', answers, sent) (left, has, asks) =
           omega (arith, again_left RowsIn in_gaps left again (λ xs. refl) asks, parts_left gs.items hs.items left reply u.found after told' alike answers sent has)
       by asked question pages alike is taken = absurd alike
@@ -347,7 +384,8 @@ module _ {K V H : Type 0} (laws : Laws K V H) (o : IsTotalOrder laws.cmp) (eqv :
       subst (λ x. By (Nodes most gaps) + left_found x ≤ left_found f) (sym e) (omega (arith, ap (total nodes_of) is, total-mapped nodes_of owned_gap gaps.items))
   taken_from_left (RowsAt keys) f after (is, e) = subst (λ x. By (RowsAt keys) + left_found x ≤ left_found f) (sym e) (omega (arith, ap length is, length-map keys.items (λ w. w.key)))
   taken_from_left (RowsIn gaps) f after (is, e) =
-      subst (λ x. By (RowsIn gaps) + left_found x ≤ left_found f) (sym e) (omega (arith, ap (total rows_of) is, total-mapped rows_of owned_gap gaps.items, ap length is, length-map gaps.items owned_gap))
+      subst (λ x. By (RowsIn gaps) + left_found x ≤ left_found f) (sym e)
+      (omega (arith, ap (total rows_of) is, total-mapped rows_of owned_gap gaps.items, ap length is, length-map gaps.items owned_gap))
 
   -- a gap that a page fills has a row
   some_rows : (rounds : ℕ) (gaps : List (Gap K)) → AllByRecursion (IsFilled laws (side peer) root 256 rounds) gaps → length gaps ≤ total rows_of gaps
@@ -368,8 +406,10 @@ module _ {K V H : Type 0} (laws : Laws K V H) (o : IsTotalOrder laws.cmp) (eqv :
       by (inr t) = omega (arith, taken_from_left session.asked (all_whole f) session.found t, whole_left rounds f a)
   next_left (Some question) rounds f session message a (is, e) = omega (arith, ap (left_for laws (side peer) root) e)
 
-  pub leaves_less : (digest_of : K → List ℕ) (before : Underway K V) (question : Question K) (reply : List ℕ) (next : Next K V) → IsSteady laws (side peer) root before → SameQuestion laws.cmp encoding before.asked question
-      → IsReply laws.cmp laws.bytes_of encoding values digest_of n peer.rows peer.tree question reply → IsNext laws n encoding values local before reply next → LeavesLess laws (side peer) root before next
+  pub leaves_less : (digest_of : K → List ℕ) (before : Underway K V) (question : Question K) (reply : List ℕ) (next : Next K V) → IsSteady laws (side peer) root before
+      → SameQuestion laws.cmp encoding before.asked question
+      → IsReply laws.cmp laws.bytes_of encoding values digest_of n peer.rows peer.tree question reply → IsNext laws n encoding values local before reply next
+      → LeavesLess laws (side peer) root before next
   leaves_less digest_of before question reply (Came rows) s alike is comes = tt
   leaves_less digest_of before question reply (Ask session message) s alike is (found, again, taken, goes) =
       let t = stay laws o eqv encoding values tell n local peer root sides small digest_of before.asked question before.rounds before.left reply before.found found again s alike is taken in

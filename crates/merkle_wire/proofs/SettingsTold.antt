@@ -74,7 +74,8 @@ module _ {K : Type 0} (encoding : K → List ℕ) (eq : K → K → Bool) (told 
   second (a ∷ []) = 0
   second (a ∷ b ∷ bs) = b
 
-  module _ {V H : Type 0} (laws : Laws K V H) (respects : (h : H) (a b : K) → eq a b ≡ true → laws.key_digest h a ≡ laws.key_digest h b) (n : ℕ) (local peer : Side K V H) (alike : AreSetAlike laws local peer)
+  module _ {V H : Type 0} (laws : Laws K V H) (respects : (h : H) (a b : K) → eq a b ≡ true → laws.key_digest h a ≡ laws.key_digest h b) (n : ℕ) (local peer : Side K V H)
+      (alike : AreSetAlike laws local peer)
       (tree : State K H) (hasher : tree.hasher ≡ peer.hasher) (base : tree.base ≡ peer.base) (format : tree.format ≡ peer.format) where
     digested : (p q : Option (K × Vec ℕ)) → SameSample p q → IsDigested (laws.key_digest local.hasher) p → IsDigested (laws.key_digest tree.hasher) q
     digested None None same is = tt
@@ -99,11 +100,13 @@ module _ {K : Type 0} (encoding : K → List ℕ) (eq : K → K → Bool) (told 
 
 module _ {K V H : Type 0} (laws : Laws K V H) (n : ℕ) (encoding : K → List ℕ) (values : V → List ℕ) (local : Side K V H) where
   -- what is asked again is not the root
-  again_own : {X : Type 0} (ask : Vec X → Question K) → ((xs : Vec X) → TellsOwn laws n local (ask xs)) → (left : List X) (question : Question K) → AsksAgain ask left (Some question) → TellsOwn laws n local question
+  again_own : {X : Type 0} (ask : Vec X → Question K) → ((xs : Vec X) → TellsOwn laws n local (ask xs)) → (left : List X) (question : Question K)
+      → AsksAgain ask left (Some question) → TellsOwn laws n local question
   again_own ask own left question (inl (none, e)) = absurd (cc)
   again_own ask own left question (inr (rest, is, some, e)) = let same : question ≡ ask rest = cc in subst (TellsOwn laws n local) (sym same) (own rest)
 
-  answered_own : (asked : Question K) (reply : List ℕ) (before after : Found K V) (question : Question K) → HasTaken laws n encoding values local asked reply before after (Some question) → TellsOwn laws n local question
+  answered_own : (asked : Question K) (reply : List ℕ) (before after : Found K V) (question : Question K)
+      → HasTaken laws n encoding values local asked reply before after (Some question) → TellsOwn laws n local question
   answered_own (Root s) reply before after question (count, digest, read, root, again) = absurd (cc)
   answered_own (Outlines most gaps) reply before after question (left, has, again) = again_own (Outlines most) (λ xs. tt) left question again
   answered_own (Nodes most gaps) reply before after question (left, has, again) = again_own (Nodes most) (λ xs. tt) left question again

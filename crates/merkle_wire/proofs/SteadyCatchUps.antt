@@ -37,7 +37,7 @@ use Rattle.merkle_wire.specs.Gaps.{owned_gap}
 use Rattle.merkle_wire.specs.Messages.{front}
 use Rattle.merkle_wire.specs.Next.{HaveTwins, IsStopped}
 use Rattle.merkle_wire.specs.Outlines.{Outline, rows_told, digests_told, page_told, IsTold, keys_among, nodes_among, outline_bytes, pages_beside}
-use Rattle.merkle_wire.specs.Replies.{Answers, IsPartOf, IsReply, items_over, outlines_bytes, part_bytes, parts_bytes, values_bytes, whole_digest}
+use Rattle.merkle_wire.specs.Replies.{TellsFirst, IsPartOf, IsReply, items_over, outlines_bytes, part_bytes, parts_bytes, values_bytes, whole_digest}
 use Rattle.merkle_wire.specs.Steady.{AsksForPages, CanBeTold, IsFilled, IsMemoryOrLimit, IsSteady, times_asked, times_at, times_in, total}
 use Rattle.merkle_wire.specs.Taking.{AreNewGaps, AreTaken, IsRootTaken, IsTaken, value_row}
 use Rattle.merkle_wire.specs.Underway.{AsksAgain, HasOutlines, HasParts, HasTaken, HasValues, Underway}
@@ -63,7 +63,8 @@ use Rattle.merkle_wire.proofs.TimesTaken.{outlines_times, parts_times, root_time
 use Rattle.merkle_wire.proofs.AskedNext.{AreSteady, IsAgainFit, again_fit, times_again}
 
 module _ {K V H : Type 0} (laws : Laws K V H) (o : IsTotalOrder laws.cmp) (eqv : IsEquivalence laws.eq) (encoding : K → List ℕ) (values : V → List ℕ) (tell : Tell laws encoding values) (n : ℕ)
-    (local : Side K V H) (peer : Contents K V H) (root : Tree K (List ℕ)) (sides : AreSides laws local (side peer) root peer.tree.root) (small : AllByRecursion (λ p. length p.1 ≡ n) (tree_map laws (side peer))) where
+    (local : Side K V H) (peer : Contents K V H) (root : Tree K (List ℕ)) (sides : AreSides laws local (side peer) root peer.tree.root)
+    (small : AllByRecursion (λ p. length p.1 ≡ n) (tree_map laws (side peer))) where
   abbrev tree : Tree K (List ℕ)
   tree = peer.tree.root
 
@@ -93,7 +94,8 @@ module _ {K V H : Type 0} (laws : Laws K V H) (o : IsTotalOrder laws.cmp) (eqv :
       → AllByRecursion (Filled 256 rounds) gaps
   page_steady rounds g h keys pages gaps (t, f, low) s are beside new =
       let (u, fu, same) = fills-same laws.cmp o g t root tree up_root sides.same f in
-      let below = parts_filled laws o local peer.tree.format tree up_tree (λ k. level_of (laws.key_digest peer.tree.hasher k) peer.tree.base) sides.is_tree.0 h g u keys gaps (fills-alike laws.cmp o g h u tree s fu) (same_gap-back laws.cmp o g h s)
+      let below = parts_filled laws o local peer.tree.format tree up_tree (λ k. level_of (laws.key_digest peer.tree.hasher k) peer.tree.base) sides.is_tree.0 h g u keys
+      gaps (fills-alike laws.cmp o g h u tree s fu) (same_gap-back laws.cmp o g h s)
       (same_keys-back laws.cmp o keys _ are) (subst (λ ps. AreNewGaps laws local g keys ps gaps) beside new) in
       each-with (IsBelow laws o local peer.tree.format tree (level u)) (Filled 256 rounds) gaps (λ x. from_tree (level u) (level t) rounds x low (sym (same_level laws.cmp o t u same))) below
 
@@ -105,7 +107,8 @@ module _ {K V H : Type 0} (laws : Laws K V H) (o : IsTotalOrder laws.cmp) (eqv :
   abbrev Pages : ℕ → Found K V → Type 0
   Pages rounds f = AllByRecursion (Filled 256 rounds) f.below × AllByRecursion (Filled 257 0) f.nodes
 
-  one_pages : (with_pages : Bool) (rounds : ℕ) (g h : Gap K) (x y : Outline K V) (before after : Found K V) → (with_pages ≡ true → Filled 257 rounds g) → SameGap laws.cmp g h → SameOutline laws.cmp laws.eq x y
+  one_pages : (with_pages : Bool) (rounds : ℕ) (g h : Gap K) (x y : Outline K V) (before after : Found K V) → (with_pages ≡ true → Filled 257 rounds g)
+      → SameGap laws.cmp g h → SameOutline laws.cmp laws.eq x y
       → IsTold laws.cmp peer.rows with_pages (items h) y → IsTaken laws local g x before after → Pages rounds before → Pages rounds after
   one_pages with_pages rounds g h (rows_told rs) y before after filled s same told taken p = subst (Pages rounds) (sym taken) p
   one_pages with_pages rounds g h (digests_told ns) y before after filled s same told taken p = subst (Pages rounds) (sym taken) p
@@ -123,7 +126,8 @@ module _ {K V H : Type 0} (laws : Laws K V H) (o : IsTotalOrder laws.cmp) (eqv :
   abbrev SameTold : OwnedGap K × Outline K V → OwnedGap K × Outline K V → Type 0
   SameTold t u = SameGapTold laws.cmp encoding t.0 u.0 × SameOutline laws.cmp laws.eq t.1 u.1
 
-  all_pages : (with_pages : Bool) (rounds : ℕ) (ts us : List (OwnedGap K × Outline K V)) (before after : Found K V) → (with_pages ≡ true → AllByRecursion (λ g. Filled 257 rounds (owned_gap g)) (map (λ t. t.0) ts))
+  all_pages : (with_pages : Bool) (rounds : ℕ) (ts us : List (OwnedGap K × Outline K V)) (before after : Found K V)
+      → (with_pages ≡ true → AllByRecursion (λ g. Filled 257 rounds (owned_gap g)) (map (λ t. t.0) ts))
       → AllZip SameTold ts us → AllByRecursion (Told with_pages) us → AreTaken laws local ts before after → Pages rounds before → Pages rounds after
   all_pages with_pages rounds [] us before after filled s told taken p = subst (Pages rounds) (sym taken) p
   all_pages with_pages rounds (t ∷ ts) [] before after filled s told taken p = absurd s
@@ -136,21 +140,28 @@ module _ {K V H : Type 0} (laws : Laws K V H) (o : IsTotalOrder laws.cmp) (eqv :
     pub fit : IsAgainFit laws (side peer) root encoding rounds again
     pub steady : Steady rounds (times_again laws (side peer) root encoding again) after
 
-  outlines_stay : (with_pages : Bool) (kind : Kind) (ask : Vec (OwnedGap K) → Question K) (r rounds : ℕ) (gaps gaps' left : List (OwnedGap K)) (reply : List ℕ) (before after : Found K V) (again : Option (Question K)) (told' : List (OwnedGap K × Outline K V))
-      → ((xs : Vec (OwnedGap K)) → xs.items ≢ [] → AsksForSome (ask xs)) → ((xs : Vec (OwnedGap K)) → AllByRecursion (λ g. Filled 257 r (owned_gap g)) xs.items → AsksForPages laws (side peer) root rounds (ask xs))
+  outlines_stay : (with_pages : Bool) (kind : Kind) (ask : Vec (OwnedGap K) → Question K) (r rounds : ℕ) (gaps gaps' left : List (OwnedGap K)) (reply : List ℕ)
+      (before after : Found K V) (again : Option (Question K)) (told' : List (OwnedGap K × Outline K V))
+      → ((xs : Vec (OwnedGap K)) → xs.items ≢ [] → AsksForSome (ask xs))
+      → ((xs : Vec (OwnedGap K)) → AllByRecursion (λ g. Filled 257 r (owned_gap g)) xs.items → AsksForPages laws (side peer) root rounds (ask xs))
       → ((k : K) (xs : Vec (OwnedGap K)) → times_asked laws (side peer) root k (ask xs) ≡ total (λ g. times_about laws o local (side peer) root tree sides.same n k with_pages (owned_gap g)) xs.items)
-      → (with_pages ≡ true → r ≡ rounds) → AllByRecursion (λ g. Filled 257 r (owned_gap g)) gaps → Steady rounds (λ k. total (λ g. times_about laws o local (side peer) root tree sides.same n k with_pages (owned_gap g)) gaps) before
-      → AllZip (SameGapTold laws.cmp encoding) gaps gaps' → Answers (λ g. IsTold laws.cmp peer.rows with_pages (items_over laws.cmp laws.bytes_of peer.tree g)) gaps' told' → reply ≡ front kind ++ outlines_bytes encoding values told'
+      → (with_pages ≡ true → r ≡ rounds) → AllByRecursion (λ g. Filled 257 r (owned_gap g)) gaps
+      → Steady rounds (λ k. total (λ g. times_about laws o local (side peer) root tree sides.same n k with_pages (owned_gap g)) gaps) before
+      → AllZip (SameGapTold laws.cmp encoding) gaps gaps' → TellsFirst (λ g. IsTold laws.cmp peer.rows with_pages (items_over laws.cmp laws.bytes_of peer.tree g)) gaps'
+      told' → reply ≡ front kind ++ outlines_bytes encoding values told'
       → HasOutlines laws n encoding values local (front kind) gaps reply before after left → AsksAgain ask left again → StaySteady rounds again after
   outlines_stay with_pages kind ask r rounds gaps gaps' left reply before after again told' some pages count same_rounds filled s same answers sent (told, read, any, are, lies, taken) asks =
       let bytes = (join_tells (front kind) (front kind) (outlines_bytes encoding values told) (outlines_bytes encoding values told') refl (sym read ∙ sent)).1 in
       let alike = outlines_tell laws.cmp laws.eq encoding values tell.keys tell.value (SameGapTold laws.cmp encoding) (λ g h e. e.1) n told told' left answers.left
-      (same_begin laws o eqv encoding values tell n local peer root sides small (SameGapTold laws.cmp encoding) gaps gaps' told told' left answers.left same are answers.begins) (fits_read laws local n told before after lies taken)
+      (same_begin laws o eqv encoding values tell n local peer root sides small
+      (SameGapTold laws.cmp encoding) gaps gaps' told told' left answers.left same are answers.begins) (fits_read laws local n told before after lies taken)
       (sent_fits laws o eqv encoding values tell n local peer root sides small with_pages told' answers.each) bytes in
       let both = subst (AllByRecursion (λ g. Filled 257 r (owned_gap g))) are filled in
       let first = each-before (λ g. Filled 257 r (owned_gap g)) (map (λ t. t.0) told) left both in
-      let after_pages = all_pages with_pages rounds told told' before after (λ with. subst (λ q. AllByRecursion (λ g. Filled 257 q (owned_gap g)) (map (λ t. t.0) told)) (same_rounds with) first) alike answers.each taken (s.below, s.nodes) in
-      let (fit, left_times) = again_fit laws (side peer) root encoding ask (λ g. Filled 257 r (owned_gap g)) (λ k g. times_about laws o local (side peer) root tree sides.same n k with_pages (owned_gap g)) rounds left again some pages count asks
+      let after_pages = all_pages with_pages rounds told told' before after
+      (λ with. subst (λ q. AllByRecursion (λ g. Filled 257 q (owned_gap g)) (map (λ t. t.0) told)) (same_rounds with) first) alike answers.each taken (s.below, s.nodes) in
+      let (fit, left_times) = again_fit laws (side peer) root encoding ask (λ g. Filled 257 r (owned_gap g))
+      (λ k g. times_about laws o local (side peer) root tree sides.same n k with_pages (owned_gap g)) rounds left again some pages count asks
       (each-behind (λ g. Filled 257 r (owned_gap g)) (map (λ t. t.0) told) left both) in
       record {
         fit = fit;
@@ -170,10 +181,12 @@ module _ {K V H : Type 0} (laws : Laws K V H) (o : IsTotalOrder laws.cmp) (eqv :
         };
       }
 
-  values_stay : (rounds : ℕ) (keys left : List (Wanted K)) (reply : List ℕ) (before after : Found K V) (again : Option (Question K)) → Steady rounds (λ k. total (λ w. times_at laws.cmp k w.key) keys) before
+  values_stay : (rounds : ℕ) (keys left : List (Wanted K)) (reply : List ℕ) (before after : Found K V) (again : Option (Question K))
+      → Steady rounds (λ k. total (λ w. times_at laws.cmp k w.key) keys) before
       → HasValues laws n encoding values local keys reply before after left → AsksAgain RowsAt left again → StaySteady rounds again after
   values_stay rounds keys left reply before after again s (told, read, any, are, taken) asks =
-      let (fit, left_times) = again_fit laws (side peer) root encoding RowsAt (λ w. ⊤) (λ k w. times_at laws.cmp k w.key) rounds left again (λ xs e. e) (λ xs a. tt) (λ k xs. refl) asks (each-all (λ w. ⊤) left (λ w. tt)) in
+      let (fit, left_times) = again_fit laws (side peer) root encoding RowsAt (λ w. ⊤) (λ k w. times_at laws.cmp k w.key) rounds left again (λ xs e. e) (λ xs a. tt)
+      (λ k xs. refl) asks (each-all (λ w. ⊤) left (λ w. tt)) in
       record {
         fit = fit;
         steady = record {
@@ -193,10 +206,12 @@ module _ {K V H : Type 0} (laws : Laws K V H) (o : IsTotalOrder laws.cmp) (eqv :
         };
       }
 
-  parts_stay : (rounds : ℕ) (gaps left : List (OwnedGap K)) (reply : List ℕ) (before after : Found K V) (again : Option (Question K)) → Steady rounds (λ k. total (λ g. times_in laws.cmp k (owned_gap g)) gaps) before
+  parts_stay : (rounds : ℕ) (gaps left : List (OwnedGap K)) (reply : List ℕ) (before after : Found K V) (again : Option (Question K))
+      → Steady rounds (λ k. total (λ g. times_in laws.cmp k (owned_gap g)) gaps) before
       → HasParts laws n encoding values local gaps reply before after left → AsksAgain RowsIn left again → StaySteady rounds again after
   parts_stay rounds gaps left reply before after again s (told, behind, rest, read, any, are, up, are_behind, is_left, taken) asks =
-      let (fit, left_times) = again_fit laws (side peer) root encoding RowsIn (λ g. ⊤) (λ k g. times_in laws.cmp k (owned_gap g)) rounds left again (λ xs e. e) (λ xs a. tt) (λ k xs. refl) asks (each-all (λ g. ⊤) left (λ g. tt)) in
+      let (fit, left_times) = again_fit laws (side peer) root encoding RowsIn (λ g. ⊤) (λ k g. times_in laws.cmp k (owned_gap g)) rounds left again (λ xs e. e)
+      (λ xs a. tt) (λ k xs. refl) asks (each-all (λ g. ⊤) left (λ g. tt)) in
       record {
         fit = fit;
         steady = record {
@@ -219,7 +234,8 @@ module _ {K V H : Type 0} (laws : Laws K V H) (o : IsTotalOrder laws.cmp) (eqv :
       }
 
   -- the root page fills the gap of all keys
-  root_filled : (t : Tree K (List ℕ)) (digest : List ℕ) → IsCanonicalRoot (λ k. level_of (laws.key_digest peer.tree.hasher k) peer.tree.base) t → whole_digest (whole_item peer.tree.format laws.bytes_of t) ≡ Some digest
+  root_filled : (t : Tree K (List ℕ)) (digest : List ℕ) → IsCanonicalRoot (λ k. level_of (laws.key_digest peer.tree.hasher k) peer.tree.base) t
+      → whole_digest (whole_item peer.tree.format laws.bytes_of t) ≡ Some digest
       → Fills laws.cmp everywhere t t × (level t < 256)
   root_filled (page l c (high h)) digest canonical e = absurd (cc)
   root_filled (page l c (node h k d r)) digest canonical e =
@@ -232,7 +248,8 @@ module _ {K V H : Type 0} (laws : Laws K V H) (o : IsTotalOrder laws.cmp) (eqv :
       let (w, fills, same) = fills-same laws.cmp o everywhere tree tree root up_tree sides.back f in
       (w, fills, omega (arith, low, same_level laws.cmp o tree w same))
 
-  root_stays : (rounds : ℕ) (digest : Option (List ℕ)) (before after : Found K V) → rounds ≡ 0 → Steady rounds (λ k. 1) before → digest ≡ whole_digest (whole_item peer.tree.format laws.bytes_of tree) → IsRootTaken laws local digest before after
+  root_stays : (rounds : ℕ) (digest : Option (List ℕ)) (before after : Found K V) → rounds ≡ 0 → Steady rounds (λ k. 1) before
+      → digest ≡ whole_digest (whole_item peer.tree.format laws.bytes_of tree) → IsRootTaken laws local digest before after
       → Steady rounds (λ k. 0) after
   root_stays rounds digest before after zero s is taken = record {
     below = by digest is taken;
@@ -254,17 +271,21 @@ module _ {K V H : Type 0} (laws : Laws K V H) (o : IsTotalOrder laws.cmp) (eqv :
       keeps (Some d) (inr (lacks, inl t)) = subst (λ f. AllByRecursion (Filled 257 0) f.nodes) (sym t) s.nodes
       keeps (Some d) (inr (lacks, inr t)) = subst (λ f. AllByRecursion (Filled 257 0) f.nodes) (sym t) s.nodes
 
-  pub stay : (digest_of : K → List ℕ) (asked question : Question K) (rounds : ℕ) (limits : Limits) (reply : List ℕ) (before after : Found K V) (again : Option (Question K)) → IsSteady laws (side peer) root (record { asked = asked; found = before; rounds = rounds; left = limits })
-      → SameQuestion laws.cmp encoding asked question → IsReply laws.cmp laws.bytes_of encoding values digest_of n peer.rows peer.tree question reply → HasTaken laws n encoding values local asked reply before after again → StaySteady rounds again after
+  pub stay : (digest_of : K → List ℕ) (asked question : Question K) (rounds : ℕ) (limits : Limits) (reply : List ℕ) (before after : Found K V)
+      (again : Option (Question K)) → IsSteady laws (side peer) root (record { asked = asked; found = before; rounds = rounds; left = limits })
+      → SameQuestion laws.cmp encoding asked question → IsReply laws.cmp laws.bytes_of encoding values digest_of n peer.rows peer.tree question reply
+      → HasTaken laws n encoding values local asked reply before after again → StaySteady rounds again after
   stay digest_of (Root a) (Root b) rounds limits reply before after again s same (settings, sent) (count, digest, read, taken, none) =
-      let is = root_tells laws o eqv encoding values tell n local peer root sides small count (length peer.rows) digest (whole_digest (whole_item peer.tree.format laws.bytes_of tree)) (sym read ∙ sent) in
+      let is = root_tells laws o eqv encoding values tell n local peer root sides small count (length peer.rows) digest
+      (whole_digest (whole_item peer.tree.format laws.bytes_of tree)) (sym read ∙ sent) in
       subst (λ x. StaySteady rounds x after) (sym none)
       (record { fit = tt; steady = root_stays rounds digest before after s.asked (record { below = s.below; nodes = s.nodes; once = s.once }) is taken })
   stay digest_of (Outlines m gs) (Outlines m' hs) rounds limits reply before after again s same (told', answers, sent) (left, has, asks) =
       outlines_stay true outlines_kind (Outlines m) rounds rounds gs.items hs.items left reply before after again told' (λ xs e. (e, s.some.1)) (λ xs a. a) (λ k xs. refl) (λ with. refl) s.asked
       (record { below = s.below; nodes = s.nodes; once = s.once }) same answers sent has asks
   stay digest_of (Nodes m gs) (Nodes m' hs) rounds limits reply before after again s same (told', answers, sent) (left, has, asks) =
-      outlines_stay false nodes_kind (Nodes m) 0 rounds gs.items hs.items left reply before after again told' (λ xs e. (e, s.some.1)) (λ xs a. a) (λ k xs. refl) (λ with. let never : false ≡ true = with in absurd (cc)) s.asked
+      outlines_stay false nodes_kind (Nodes m) 0 rounds gs.items hs.items left reply before after again told' (λ xs e. (e, s.some.1)) (λ xs a. a) (λ k xs. refl)
+      (λ with. let never : false ≡ true = with in absurd (cc)) s.asked
       (record { below = s.below; nodes = s.nodes; once = s.once }) same answers sent has asks
   stay digest_of (RowsAt ws) (RowsAt xs) rounds limits reply before after again s same (told', answers, sent) (left, has, asks) =
       values_stay rounds ws.items left reply before after again (record { below = s.below; nodes = s.nodes; once = s.once }) has asks
@@ -283,16 +304,19 @@ module _ {K V H : Type 0} (laws : Laws K V H) (o : IsTotalOrder laws.cmp) (eqv :
     outline_fits : (with_pages : Bool) (h : OwnedGap K) (x : Outline K V) → Told with_pages (h, x) → Fits n x
     outline_fits with_pages h x t = (sent_fits laws o eqv encoding values tell n local peer root sides small with_pages ((h, x) ∷ []) (t, tt)).0
 
-    says : (with_pages : Bool) (g h : OwnedGap K) (x : Outline K V) → SameGapTold laws.cmp encoding g h → InTree g → Told with_pages (h, x) → IsOutlineIn laws.cmp is_key is_value n with_pages (owned_gap g) x
+    says : (with_pages : Bool) (g h : OwnedGap K) (x : Outline K V) → SameGapTold laws.cmp encoding g h → InTree g → Told with_pages (h, x)
+        → IsOutlineIn laws.cmp is_key is_value n with_pages (owned_gap g) x
     says with_pages g h x same (u, f) t =
-        outline_said laws o is_key is_value (side peer) told n tree up_tree (nodes_peers laws o eqv local (side peer) root tree sides) with_pages (owned_gap g) (owned_gap h) u x (same_gap-back laws.cmp o (owned_gap g) (owned_gap h) same.0)
+        outline_said laws o is_key is_value (side peer) told n tree up_tree (nodes_peers laws o eqv local (side peer) root tree sides) with_pages (owned_gap g)
+        (owned_gap h) u x (same_gap-back laws.cmp o (owned_gap g) (owned_gap h) same.0)
         (fills-alike laws.cmp o (owned_gap g) (owned_gap h) u tree same.0 f) t (outline_fits with_pages h x t)
 
     whole_page : (t : Tree K (List ℕ)) → IsPageDigest (whole_digest (whole_item peer.tree.format laws.bytes_of t))
     whole_page (page l c (high h)) = tt
     whole_page (page l c (node h k d r)) = digest_length peer.tree.format laws.bytes_of (page l c (node h k d r))
 
-    pub can_be_taken : (digest_of : K → List ℕ) (asked question : Question K) (rounds : ℕ) (reply : List ℕ) → AsksForSome asked → AsksForPages laws (side peer) root rounds asked → SameQuestion laws.cmp encoding asked question
+    pub can_be_taken : (digest_of : K → List ℕ) (asked question : Question K) (rounds : ℕ) (reply : List ℕ) → AsksForSome asked
+        → AsksForPages laws (side peer) root rounds asked → SameQuestion laws.cmp encoding asked question
         → IsReply laws.cmp laws.bytes_of encoding values digest_of n peer.rows peer.tree question reply → IsFit laws.cmp is_key is_value encoding values n asked reply
     can_be_taken digest_of (Root a) (Root b) rounds reply some pages same (settings, sent) = (
       count_bytes (length peer.rows) ++ option_bytes (λ d. d) (whole_digest (whole_item peer.tree.format laws.bytes_of tree)),
@@ -316,7 +340,8 @@ module _ {K V H : Type 0} (laws : Laws K V H) (o : IsTotalOrder laws.cmp) (eqv :
     can_be_taken digest_of (RowsAt ws) (RowsAt xs) rounds reply some pages same (told', answers, sent) = (
       values_bytes values told',
       answers_say (SameWanted laws.cmp encoding) (λ t. option_bytes values t.1) (λ t u e. ap (option_bytes values) e.1) (λ w. ⊤)
-          (λ w. IsOption is_value) (λ w value. value ≡ get laws.cmp peer.rows w.key) (λ w x value e f is. value_said laws o is_key is_value (side peer) told x value is) ws.items xs.items told' same some
+          (λ w. IsOption is_value) (λ w value. value ≡ get laws.cmp peer.rows w.key)
+          (λ w x value e f is. value_said laws o is_key is_value (side peer) told x value is) ws.items xs.items told' same some
           (each-all (λ w. ⊤) ws.items (λ w. tt)) answers,
       sent,
     )
@@ -324,7 +349,8 @@ module _ {K V H : Type 0} (laws : Laws K V H) (o : IsTotalOrder laws.cmp) (eqv :
       parts_bytes encoding values told',
       answers_say (SameGapTold laws.cmp encoding) (λ t. part_bytes encoding values (bound_key encoding [] t.0.after) t.1) (λ t u e i. part_bytes encoding values (e.0.1 i) (e.1 i)) (λ g. ⊤)
           (λ g. IsPartIn laws.cmp is_key is_value (owned_gap g)) (IsPartOf laws.cmp peer.rows)
-          (λ g h part e f is. part_said laws o is_key is_value (side peer) told (owned_gap g) h part sides.up_peer (same_gap-back laws.cmp o (owned_gap g) (owned_gap h) e.0) is) gs.items hs.items told' same some
+          (λ g h part e f is. part_said laws o is_key is_value (side peer) told (owned_gap g) h part sides.up_peer
+          (same_gap-back laws.cmp o (owned_gap g) (owned_gap h) e.0) is) gs.items hs.items told' same some
           (each-all (λ g. ⊤) gs.items (λ g. tt)) answers,
       sent,
     )
@@ -343,8 +369,10 @@ module _ {K V H : Type 0} (laws : Laws K V H) (o : IsTotalOrder laws.cmp) (eqv :
     no_more_rounds rounds (g ∷ gaps) many some ((t, f, low), a) = absurd (omega (arith, many, low))
 
     -- so it fails only when out of memory or at a limit
-    pub memory_alone : (digest_of : K → List ℕ) (before : Underway K V) (question : Question K) (reply : List ℕ) (error : SessionError) → IsSteady laws (side peer) root before → SameQuestion laws.cmp encoding before.asked question
-        → IsReply laws.cmp laws.bytes_of encoding values digest_of n peer.rows peer.tree question reply → IsStopped laws n encoding values is_key is_value local before reply error → IsMemoryOrLimit error
+    pub memory_alone : (digest_of : K → List ℕ) (before : Underway K V) (question : Question K) (reply : List ℕ) (error : SessionError)
+        → IsSteady laws (side peer) root before → SameQuestion laws.cmp encoding before.asked question
+        → IsReply laws.cmp laws.bytes_of encoding values digest_of n peer.rows peer.tree question reply
+        → IsStopped laws n encoding values is_key is_value local before reply error → IsMemoryOrLimit error
     memory_alone digest_of before question reply error s same is = by error
       where
         fit : IsFit laws.cmp is_key is_value encoding values n before.asked reply
@@ -358,7 +386,8 @@ module _ {K V H : Type 0} (laws : Laws K V H) (o : IsTotalOrder laws.cmp) (eqv :
         by : (e : SessionError) → IsStopped laws n encoding values is_key is_value local before reply e → IsMemoryOrLimit e
         by Memory stopped = tt
         by (Limit limit) stopped = tt
-        by TooManyRounds (many, found, taken, some) = absurd (no_more_rounds before.rounds found.below many some (stay digest_of before.asked question before.rounds before.left reply before.found found None s same is taken).steady.below)
+        by TooManyRounds (many, found, taken, some) =
+            absurd (no_more_rounds before.rounds found.below many some (stay digest_of before.asked question before.rounds before.left reply before.found found None s same is taken).steady.below)
         by Twice (found, taken, done, twins) = absurd (twice found taken twins)
         by (Malformed e) stopped = absurd (stopped fit)
         by OtherKind stopped = absurd (stopped fit)

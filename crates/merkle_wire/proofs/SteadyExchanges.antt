@@ -48,7 +48,8 @@ use Rattle.merkle_wire.proofs.SteadyCatchUps.{memory_alone, stay}
 -- what comes of a reply: where it is taken, what comes next covers what is missing, is steady, leaves less to ask for, and has keys of the two sides alone;
 -- and it is refused only when out of memory
 pub record Comes {K V H : Type 0} (laws : Laws K V H) (n : ℕ) (encoding : K → List ℕ) (values : V → List ℕ) (local peer : Side K V H) (before : Underway K V) (reply : List ℕ) : Type 1 where
-  pub covers : (next : Next K V) → IsNext laws n encoding values local before reply next → (root : Tree K (List ℕ)) → IsTreeOf laws.cmp (laws.key_digest peer.hasher) peer.base root (tree_map laws peer) → HasSmallMap laws n peer
+  pub covers : (next : Next K V) → IsNext laws n encoding values local before reply next → (root : Tree K (List ℕ))
+      → IsTreeOf laws.cmp (laws.key_digest peer.hasher) peer.base root (tree_map laws peer) → HasSmallMap laws n peer
       → Covers laws local peer root before → CoversNext laws local peer root encoding next
   pub steady : (next : Next K V) → IsNext laws n encoding values local before reply next → StaysSteady laws n peer before next
   pub less : (next : Next K V) → IsNext laws n encoding values local before reply next → GoesDown laws n peer before next
@@ -56,16 +57,21 @@ pub record Comes {K V H : Type 0} (laws : Laws K V H) (n : ℕ) (encoding : K �
   pub stops : (is_key : K → Type 0) (is_value : V → Type 0) (error : SessionError) → IsStopped laws n encoding values is_key is_value local before reply error
       → WhileSteady laws n peer (λ root. CanBeTold laws is_key is_value peer → IsMemoryOrLimit error) before
 
-module _ {K V H : Type 0} (laws : Laws K V H) (o : IsTotalOrder laws.cmp) (eqv : IsEquivalence laws.eq) (respects : (h : H) (a b : V) → laws.eq a b ≡ true → laws.value_digest h a ≡ laws.value_digest h b)
-    (one_tree : (hasher : H) (base : ℕ) (a b : List (K × List ℕ)) (t u : Tree K (List ℕ)) → SameMap laws.cmp (λ d e. d ≡ e) a b → IsTreeOf laws.cmp (laws.key_digest hasher) base t a → IsTreeOf laws.cmp (laws.key_digest hasher) base u b → SamePages laws.cmp t u)
-    (encoding : K → List ℕ) (values : V → List ℕ) (tell : Tell laws encoding values) (n : ℕ) (local : Side K V H) (up : IsMap laws.cmp local.rows) (met peer : Contents K V H) (rows : peer.rows ≡ met.rows) (settings : SameSettings met.tree peer.tree)
+module _ {K V H : Type 0} (laws : Laws K V H) (o : IsTotalOrder laws.cmp) (eqv : IsEquivalence laws.eq)
+    (respects : (h : H) (a b : V) → laws.eq a b ≡ true → laws.value_digest h a ≡ laws.value_digest h b)
+    (one_tree : (hasher : H) (base : ℕ) (a b : List (K × List ℕ)) (t u : Tree K (List ℕ)) → SameMap laws.cmp (λ d e. d ≡ e) a b
+    → IsTreeOf laws.cmp (laws.key_digest hasher) base t a → IsTreeOf laws.cmp (laws.key_digest hasher) base u b → SamePages laws.cmp t u)
+    (encoding : K → List ℕ) (values : V → List ℕ) (tell : Tell laws encoding values) (n : ℕ) (local : Side K V H) (up : IsMap laws.cmp local.rows)
+    (met peer : Contents K V H) (rows : peer.rows ≡ met.rows) (settings : SameSettings met.tree peer.tree)
     (kept : IsKept laws.cmp laws.value_digest peer) (canonical : IsCanonicalRoot (λ k. level_of (laws.key_digest peer.tree.hasher k) peer.tree.base) peer.tree.root) where
-  module _ (digest_of : K → List ℕ) (before : Underway K V) (question : Question K) (message reply : List ℕ) (asked : message ≡ question_bytes encoding before.asked) (read : message ≡ question_bytes encoding question)
+  module _ (digest_of : K → List ℕ) (before : Underway K V) (question : Question K) (message reply : List ℕ) (asked : message ≡ question_bytes encoding before.asked)
+      (read : message ≡ question_bytes encoding question)
       (is : IsReply laws.cmp laws.bytes_of encoding values digest_of n met.rows peer.tree question reply) where
     same : side peer ≡ side met
     same = same_side met peer rows settings
 
-    sides : (root : Tree K (List ℕ)) → IsTreeOf laws.cmp (laws.key_digest met.tree.hasher) met.tree.base root (tree_map laws (side met)) → HasSmallMap laws n (side met) → AreSides laws local (side peer) root peer.tree.root
+    sides : (root : Tree K (List ℕ)) → IsTreeOf laws.cmp (laws.key_digest met.tree.hasher) met.tree.base root (tree_map laws (side met)) → HasSmallMap laws n (side met)
+        → AreSides laws local (side peer) root peer.tree.root
     sides root of_peer small = sides_met laws o eqv respects one_tree encoding values tell n local up met peer rows settings kept canonical (subst (HasSmallMap laws n) (sym same) small) root of_peer
 
     lengths : HasSmallMap laws n (side met) → AllByRecursion (λ p. length p.1 ≡ n) (tree_map laws (side peer))
@@ -81,41 +87,52 @@ module _ {K V H : Type 0} (laws : Laws K V H) (o : IsTotalOrder laws.cmp) (eqv :
     stays_steady : (next : Next K V) → IsNext laws n encoding values local before reply next → WhileSteady laws n (side met) (λ root. SteadyNext laws (side met) root next) before
     stays_steady next (found, again, taken, goes) root of_peer small steady =
         let here = subst (λ s. IsSteady laws s root before) (sym same) steady in
-        let t = stay laws o eqv encoding values tell n local peer root (sides root of_peer small) (lengths small) digest_of before.asked question before.rounds before.left reply before.found found again here alike replies taken in
+        let t = stay laws o eqv encoding values tell n local peer root (sides root of_peer small)
+        (lengths small) digest_of before.asked question before.rounds before.left reply before.found found again here alike replies taken in
         subst (λ s. SteadyNext laws s root next) same (next_steady laws (side peer) root encoding again before.rounds found next t.fit t.steady goes)
 
     -- it leaves less to ask for
     goes_on_less : (next : Next K V) → IsNext laws n encoding values local before reply next → WhileSteady laws n (side met) (λ root. LeavesLess laws (side met) root before next) before
     goes_on_less next comes root of_peer small steady =
         subst (λ s. LeavesLess laws s root before next) same
-        (leaves_less laws o eqv encoding values tell n local peer root (sides root of_peer small) (lengths small) digest_of before question reply next (subst (λ s. IsSteady laws s root before) (sym same) steady) alike replies comes)
+        (leaves_less laws o eqv encoding values tell n local peer root (sides root of_peer small) (lengths small) digest_of before question reply next
+        (subst (λ s. IsSteady laws s root before) (sym same) steady) alike replies comes)
 
     -- and has keys of the two sides alone
-    stays_at_keys : (next : Next K V) → IsNext laws n encoding values local before reply next → HasKeysOfSides laws local (side met) before → HasSmallMap laws n (side met) → HasKeysNext laws local (side met) next
+    stays_at_keys : (next : Next K V) → IsNext laws n encoding values local before reply next → HasKeysOfSides laws local (side met) before
+        → HasSmallMap laws n (side met) → HasKeysNext laws local (side met) next
     stays_at_keys next comes keys small =
         let of_met = subst (λ s. IsTreeOf laws.cmp (laws.key_digest s.hasher) s.base peer.tree.root (tree_map laws s)) same (canonical, kept.digested) in
         subst (λ s. HasKeysNext laws local s next) same
-        (next_keys laws o eqv encoding values tell n local peer peer.tree.root (sides peer.tree.root of_met small) (lengths small) digest_of before question reply next (subst (λ s. HasKeysOfSides laws local s before) (sym same) keys) alike replies comes)
+        (next_keys laws o eqv encoding values tell n local peer peer.tree.root (sides peer.tree.root of_met small) (lengths small) digest_of before question reply next
+        (subst (λ s. HasKeysOfSides laws local s before) (sym same) keys) alike replies comes)
 
     -- and the reply fails only when out of memory or at a limit
     stops_for_memory : (is_key : K → Type 0) (is_value : V → Type 0) (error : SessionError) → IsStopped laws n encoding values is_key is_value local before reply error
         → WhileSteady laws n (side met) (λ root. CanBeTold laws is_key is_value (side met) → IsMemoryOrLimit error) before
     stops_for_memory is_key is_value error stopped root of_peer small steady told =
-        memory_alone laws o eqv encoding values tell n local peer root (sides root of_peer small) (lengths small) is_key is_value (subst (CanBeTold laws is_key is_value) (sym same) told) digest_of before question reply error
+        memory_alone laws o eqv encoding values tell n local peer root (sides root of_peer small) (lengths small) is_key is_value
+        (subst (CanBeTold laws is_key is_value) (sym same) told) digest_of before question reply error
         (subst (λ s. IsSteady laws s root before) (sym same) steady) alike replies stopped
 
     -- and what it tells of pages is paid for
-    pub exchanged_pays : (one_digest : (format : PageFormat) (t u : Tree K (List ℕ)) → SamePages laws.cmp t u → page_digest format laws.bytes_of t ≡ page_digest format laws.bytes_of u) (is_there : Gap K → List ℕ → Bool) (tells : TellsOwnPages laws local is_there)
+    pub exchanged_pays : (one_digest : (format : PageFormat) (t u : Tree K (List ℕ)) → SamePages laws.cmp t u
+        → page_digest format laws.bytes_of t ≡ page_digest format laws.bytes_of u) (is_there : Gap K → List ℕ → Bool) (tells : TellsOwnPages laws local is_there)
         (next : Next K V) (takes : IsNext laws n encoding values local before reply next)
-        → WhileSteady laws n (side met) (λ root. PayFor laws (side met) root is_there (pages_taken laws n encoding values local before.asked reply before.found takes.0 takes.1 takes.2) (nodes_taken laws n encoding values local before.asked reply before.found takes.0 takes.1 takes.2) before next) before
+        → WhileSteady laws n (side met) (λ root. PayFor laws (side met) root is_there
+        (pages_taken laws n encoding values local before.asked reply before.found takes.0 takes.1 takes.2)
+        (nodes_taken laws n encoding values local before.asked reply before.found takes.0 takes.1 takes.2) before next) before
     exchanged_pays one_digest is_there tells next takes root of_peer small steady =
-        subst (λ s. PayFor laws s root is_there (pages_taken laws n encoding values local before.asked reply before.found takes.0 takes.1 takes.2) (nodes_taken laws n encoding values local before.asked reply before.found takes.0 takes.1 takes.2) before next) same
+        subst (λ s. PayFor laws s root is_there (pages_taken laws n encoding values local before.asked reply before.found takes.0 takes.1 takes.2)
+        (nodes_taken laws n encoding values local before.asked reply before.found takes.0 takes.1 takes.2) before next) same
         (exchange_pays laws o eqv encoding values tell n local peer root (sides root of_peer small) (lengths small) one_digest is_there tells digest_of before question reply next
         (subst (λ s. IsSteady laws s root before) (sym same) steady) alike replies takes)
 
     -- so are the values that it tells at keys
-    pub exchanged_pays_for_keys : (next : Next K V) (takes : IsNext laws n encoding values local before reply next) (root : Tree K (List ℕ)) → IsTreeOf laws.cmp (laws.key_digest met.tree.hasher) met.tree.base root (tree_map laws (side met)) → HasSmallMap laws n (side met)
-        → Wants laws local (side met) before.found → AsksLacked laws local (side met) before.asked → PayForKeys laws local (side met) root (keys_taken laws n encoding values local before.asked reply before.found takes.0 takes.1 takes.2) before next
+    pub exchanged_pays_for_keys : (next : Next K V) (takes : IsNext laws n encoding values local before reply next) (root : Tree K (List ℕ))
+        → IsTreeOf laws.cmp (laws.key_digest met.tree.hasher) met.tree.base root (tree_map laws (side met)) → HasSmallMap laws n (side met)
+        → Wants laws local (side met) before.found → AsksLacked laws local (side met) before.asked
+        → PayForKeys laws local (side met) root (keys_taken laws n encoding values local before.asked reply before.found takes.0 takes.1 takes.2) before next
     exchanged_pays_for_keys next takes root of_peer small wants lacked =
         subst (λ s. PayForKeys laws local s root (keys_taken laws n encoding values local before.asked reply before.found takes.0 takes.1 takes.2) before next) same
         (exchange_pays_for_keys laws o eqv encoding values tell n local peer root (sides root of_peer small) (lengths small) digest_of before question reply next
@@ -124,7 +141,8 @@ module _ {K V H : Type 0} (laws : Laws K V H) (o : IsTotalOrder laws.cmp) (eqv :
     pub comes : Comes laws n encoding values local (side met) before reply
     comes = record {
       covers = λ next goes root of_peer small covers.
-          exchanged laws o eqv respects one_tree encoding values tell n local up met peer rows settings kept canonical (subst (HasSmallMap laws n) (sym same) small) digest_of before question message reply next asked read is goes
+          exchanged laws o eqv respects one_tree encoding values tell n local up met peer rows settings kept canonical
+          (subst (HasSmallMap laws n) (sym same) small) digest_of before question message reply next asked read is goes
           root of_peer covers;
       steady = stays_steady;
       less = goes_on_less;
@@ -140,7 +158,8 @@ unanswered_for_memory answer.OtherSettings unread others = absurd (others tt)
 
 module _ {K V H : Type 0} (laws : Laws K V H) where
   -- a catch-up that begins is steady
-  pub begun_steady : (peer : Side K V H) (root : Tree K (List ℕ)) (begun : Underway K V) (settings : Settings K) → begun.asked ≡ Root settings → begun.found ≡ nothing → begun.rounds ≡ 0 → IsSteady laws peer root begun
+  pub begun_steady : (peer : Side K V H) (root : Tree K (List ℕ)) (begun : Underway K V) (settings : Settings K) → begun.asked ≡ Root settings → begun.found ≡ nothing
+      → begun.rounds ≡ 0 → IsSteady laws peer root begun
   begun_steady peer root begun settings asked found zero = record {
     some = subst AsksForSome (sym asked) tt;
     asked = subst (AsksForPages laws peer root begun.rounds) (sym asked) zero;
@@ -150,7 +169,8 @@ module _ {K V H : Type 0} (laws : Laws K V H) where
   }
 
   -- what holds while a catch-up is steady holds by the tree that the peer had at first, where its rows and settings stayed since then
-  pub while_steady_since : (n : ℕ) (peer b : Contents K V H) → b.rows ≡ peer.rows → SameSettings peer.tree b.tree → IsCanonicalRoot (λ k. level_of (laws.key_digest peer.tree.hasher k) peer.tree.base) peer.tree.root
+  pub while_steady_since : (n : ℕ) (peer b : Contents K V H) → b.rows ≡ peer.rows → SameSettings peer.tree b.tree
+      → IsCanonicalRoot (λ k. level_of (laws.key_digest peer.tree.hasher k) peer.tree.base) peer.tree.root
       → SameMap laws.cmp (λ d e. d ≡ e) (map_of peer.tree) (tree_map laws (side peer)) → HasSmallMap laws n (side peer) → (before : Underway K V) (P : Side K V H → Tree K (List ℕ) → Type 0)
       → WhileSteady laws n (side b) (P (side b)) before → IsSteady laws (side peer) peer.tree.root before → P (side peer) peer.tree.root
   while_steady_since n peer b rows settings canonical digested small before P holds steady =

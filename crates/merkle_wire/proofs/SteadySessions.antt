@@ -14,7 +14,7 @@ use Rattle.merkle_tree_theory.specs.Tree.{Tree}
 use Rattle.merkle_tree_theory.specs.declared.page_format.PageFormat.{PageFormat}
 use Rattle.merkle_wire.specs.Cost.{keys_taken, keys_told, lacked_of_tree, nodes_taken, nodes_told, pages_taken, pages_told, told_in}
 use Rattle.merkle_wire.specs.Next.{IsNext, IsStopped}
-use Rattle.merkle_wire.specs.Sessions.{IsAnswer, IsExchange}
+use Rattle.merkle_wire.specs.Sessions.{IsPeerReply, IsExchange}
 use Rattle.merkle_wire.specs.Steady.{AreExchangesTo, CanBeTold, IsBegun, IsMemoryOrLimit, IsSteady, LeavesLess, SteadyNext, left_by, left_for, left_of, total}
 use Rattle.merkle_wire.specs.Taking.{new_keys}
 use Rattle.merkle_wire.specs.Underway.{Underway}
@@ -28,10 +28,14 @@ use Rattle.merkle_wire.proofs.PagesLacked.{TellsOwnPages}
 use Rattle.merkle_wire.proofs.SteadyExchanges.{Comes, begun_steady, comes, exchanged_pays, exchanged_pays_for_keys}
 use Rattle.merkle_wire.proofs.Times.{total-less}
 
-module _ {K V H : Type 0} (laws : Laws K V H) (o : IsTotalOrder laws.cmp) (eqv : IsEquivalence laws.eq) (respects : (h : H) (a b : V) → laws.eq a b ≡ true → laws.value_digest h a ≡ laws.value_digest h b)
-    (one_tree : (hasher : H) (base : ℕ) (a b : List (K × List ℕ)) (t u : Tree K (List ℕ)) → SameMap laws.cmp (λ d e. d ≡ e) a b → IsTreeOf laws.cmp (laws.key_digest hasher) base t a → IsTreeOf laws.cmp (laws.key_digest hasher) base u b → SamePages laws.cmp t u)
-    (encoding : K → List ℕ) (values : V → List ℕ) (tell : Tell laws encoding values) (n : ℕ) (local peer : Side K V H) (up : IsMap laws.cmp local.rows) (up_peer : IsMap laws.cmp peer.rows) (small : HasSmallMap laws n peer) where
-  module _ (before : Underway K V) (reply : List ℕ) (a : IsAnswer laws n encoding values local peer before reply) (root : Tree K (List ℕ)) (of_peer : IsTreeOf laws.cmp (laws.key_digest peer.hasher) peer.base root (tree_map laws peer)) (steady : IsSteady laws peer root before) where
+module _ {K V H : Type 0} (laws : Laws K V H) (o : IsTotalOrder laws.cmp) (eqv : IsEquivalence laws.eq)
+    (respects : (h : H) (a b : V) → laws.eq a b ≡ true → laws.value_digest h a ≡ laws.value_digest h b)
+    (one_tree : (hasher : H) (base : ℕ) (a b : List (K × List ℕ)) (t u : Tree K (List ℕ)) → SameMap laws.cmp (λ d e. d ≡ e) a b
+    → IsTreeOf laws.cmp (laws.key_digest hasher) base t a → IsTreeOf laws.cmp (laws.key_digest hasher) base u b → SamePages laws.cmp t u)
+    (encoding : K → List ℕ) (values : V → List ℕ) (tell : Tell laws encoding values) (n : ℕ) (local peer : Side K V H) (up : IsMap laws.cmp local.rows)
+    (up_peer : IsMap laws.cmp peer.rows) (small : HasSmallMap laws n peer) where
+  module _ (before : Underway K V) (reply : List ℕ) (a : IsPeerReply laws n encoding values local peer before reply) (root : Tree K (List ℕ))
+      (of_peer : IsTreeOf laws.cmp (laws.key_digest peer.hasher) peer.base root (tree_map laws peer)) (steady : IsSteady laws peer root before) where
     abbrev now : Contents K V H
     now = record { rows = peer.rows; tree = a.tree }
 
@@ -44,28 +48,34 @@ module _ {K V H : Type 0} (laws : Laws K V H) (o : IsTotalOrder laws.cmp) (eqv :
     kept = record { ascending = up_peer; digested = tree.1 }
 
     came : Comes laws n encoding values local peer before reply
-    came = comes laws o eqv respects one_tree encoding values tell n local up (contents_of peer root) now refl a.settings kept tree.0 (laws.key_digest a.tree.hasher) before a.question a.message reply a.asks a.reads a.answers
+    came = comes laws o eqv respects one_tree encoding values tell n local up (contents_of peer root) now refl a.settings kept tree.0
+        (laws.key_digest a.tree.hasher) before a.question a.message reply a.asks a.reads a.answers
 
     answered_steady : (next : Next K V) → IsNext laws n encoding values local before reply next → SteadyNext laws peer root next
     answered_steady next takes = came.steady next takes root of_peer small steady
 
-    answered_for_memory : (is_key : K → Type 0) (is_value : V → Type 0) → CanBeTold laws is_key is_value peer → (error : SessionError) → IsStopped laws n encoding values is_key is_value local before reply error → IsMemoryOrLimit error
+    answered_for_memory : (is_key : K → Type 0) (is_value : V → Type 0) → CanBeTold laws is_key is_value peer → (error : SessionError)
+        → IsStopped laws n encoding values is_key is_value local before reply error → IsMemoryOrLimit error
     answered_for_memory is_key is_value told error stopped = came.stops is_key is_value error stopped root of_peer small steady told
 
     answered_less : (next : Next K V) → IsNext laws n encoding values local before reply next → LeavesLess laws peer root before next
     answered_less next takes = came.less next takes root of_peer small steady
 
-    answered_pays : (one_digest : (format : PageFormat) (t u : Tree K (List ℕ)) → SamePages laws.cmp t u → page_digest format laws.bytes_of t ≡ page_digest format laws.bytes_of u) (is_there : Gap K → List ℕ → Bool) (tells : TellsOwnPages laws local is_there)
+    answered_pays : (one_digest : (format : PageFormat) (t u : Tree K (List ℕ)) → SamePages laws.cmp t u
+        → page_digest format laws.bytes_of t ≡ page_digest format laws.bytes_of u) (is_there : Gap K → List ℕ → Bool) (tells : TellsOwnPages laws local is_there)
         (next : Next K V) (takes : IsNext laws n encoding values local before reply next)
-        → PayFor laws peer root is_there (pages_taken laws n encoding values local before.asked reply before.found takes.0 takes.1 takes.2) (nodes_taken laws n encoding values local before.asked reply before.found takes.0 takes.1 takes.2) before next
+        → PayFor laws peer root is_there (pages_taken laws n encoding values local before.asked reply before.found takes.0 takes.1 takes.2)
+        (nodes_taken laws n encoding values local before.asked reply before.found takes.0 takes.1 takes.2) before next
     answered_pays one_digest is_there tells next takes =
-        exchanged_pays laws o eqv respects one_tree encoding values tell n local up (contents_of peer root) now refl a.settings kept tree.0 (laws.key_digest a.tree.hasher) before a.question a.message reply a.asks a.reads a.answers
+        exchanged_pays laws o eqv respects one_tree encoding values tell n local up (contents_of peer root) now refl a.settings kept tree.0
+        (laws.key_digest a.tree.hasher) before a.question a.message reply a.asks a.reads a.answers
         one_digest is_there tells next takes root of_peer small steady
 
     answered_pays_for_keys : (next : Next K V) (takes : IsNext laws n encoding values local before reply next) → Wants laws local peer before.found → AsksLacked laws local peer before.asked
         → PayForKeys laws local peer root (keys_taken laws n encoding values local before.asked reply before.found takes.0 takes.1 takes.2) before next
     answered_pays_for_keys next takes =
-        exchanged_pays_for_keys laws o eqv respects one_tree encoding values tell n local up (contents_of peer root) now refl a.settings kept tree.0 (laws.key_digest a.tree.hasher) before a.question a.message reply a.asks a.reads a.answers
+        exchanged_pays_for_keys laws o eqv respects one_tree encoding values tell n local up (contents_of peer root) now refl a.settings kept tree.0
+        (laws.key_digest a.tree.hasher) before a.question a.message reply a.asks a.reads a.answers
         next takes root of_peer small
 
   -- so a session has no more exchanges than were to be asked for at first
@@ -96,7 +106,8 @@ module _ {K V H : Type 0} (laws : Laws K V H) (o : IsTotalOrder laws.cmp) (eqv :
           )
 
   -- and a catch-up that is steady stays so
-  chain_steady : (root : Tree K (List ℕ)) → IsTreeOf laws.cmp (laws.key_digest peer.hasher) peer.base root (tree_map laws peer) → (before last : Underway K V) (more : List (Underway K V)) → AreExchangesTo laws n encoding values local peer before more last
+  chain_steady : (root : Tree K (List ℕ)) → IsTreeOf laws.cmp (laws.key_digest peer.hasher) peer.base root (tree_map laws peer)
+      → (before last : Underway K V) (more : List (Underway K V)) → AreExchangesTo laws n encoding values local peer before more last
       → IsSteady laws peer root before → IsSteady laws peer root last
   chain_steady root of_peer before last [] is steady = subst (IsSteady laws peer root) is steady
   chain_steady root of_peer before last (next ∷ more) (message, e, others) steady =
@@ -104,14 +115,16 @@ module _ {K V H : Type 0} (laws : Laws K V H) (o : IsTotalOrder laws.cmp) (eqv :
 
   module _ (is_key : K → Type 0) (is_value : V → Type 0) (told : CanBeTold laws is_key is_value peer) where
     pub answers_taken : (begun last : Underway K V) (more : List (Underway K V)) → IsBegun begun → AreExchangesTo laws n encoding values local peer begun more last
-        → (reply : List ℕ) (error : SessionError) → IsAnswer laws n encoding values local peer last reply → IsStopped laws n encoding values is_key is_value local last reply error → IsMemoryOrLimit error
+        → (reply : List ℕ) (error : SessionError) → IsPeerReply laws n encoding values local peer last reply
+        → IsStopped laws n encoding values is_key is_value local last reply error → IsMemoryOrLimit error
     answers_taken begun last more b exchanges reply error answer stopped =
         let root = answer.tree.root in
         let steady = chain_steady root answer.of_peer begun last more exchanges (begun_steady laws peer root begun b.settings b.asks_root b.nothing_found b.no_round) in
         answered_for_memory last reply answer root answer.of_peer steady is_key is_value told error stopped
 
   -- the pages that are told in a session are paid for by those that the side hasn't
-  module _ (one_digest : (format : PageFormat) (t u : Tree K (List ℕ)) → SamePages laws.cmp t u → page_digest format laws.bytes_of t ≡ page_digest format laws.bytes_of u) (is_there : Gap K → List ℕ → Bool) (tells : TellsOwnPages laws local is_there)
+  module _ (one_digest : (format : PageFormat) (t u : Tree K (List ℕ)) → SamePages laws.cmp t u → page_digest format laws.bytes_of t ≡ page_digest format laws.bytes_of u)
+      (is_there : Gap K → List ℕ → Bool) (tells : TellsOwnPages laws local is_there)
       (root : Tree K (List ℕ)) (of_peer : IsTreeOf laws.cmp (laws.key_digest peer.hasher) peer.base root (tree_map laws peer)) where
     abbrev pages_left : Underway K V → ℕ
     pages_left u = pages_by laws peer root is_there u.asked + pages_of laws peer root is_there u.found
@@ -126,7 +139,8 @@ module _ {K V H : Type 0} (laws : Laws K V H) (o : IsTotalOrder laws.cmp) (eqv :
     nodes_in = told_in laws n encoding values local peer (nodes_told laws n encoding values local peer)
 
     chain_pays : (before last : Underway K V) (more : List (Underway K V)) (exchanges : AreExchangesTo laws n encoding values local peer before more last) → IsSteady laws peer root before
-        → (pages_in before more last exchanges + pages_left last ≤ pages_left before) × (nodes_in before more last exchanges + nodes_left last ≤ pages_in before more last exchanges + nodes_left before)
+        → (pages_in before more last exchanges + pages_left last ≤ pages_left before)
+        × (nodes_in before more last exchanges + nodes_left last ≤ pages_in before more last exchanges + nodes_left before)
     chain_pays before last [] is steady = (omega (arith, ap pages_left is), omega (arith, ap nodes_left is))
     chain_pays before last (next ∷ more) (message, e, others) steady =
         let here = answered_pays before e.reply e.answer root of_peer steady one_digest is_there tells (Ask next message) e.takes in
@@ -145,7 +159,8 @@ module _ {K V H : Type 0} (laws : Laws K V H) (o : IsTotalOrder laws.cmp) (eqv :
         let first = begun_steady laws peer root begun b.settings b.asks_root b.nothing_found b.no_round in
         let chain = chain_pays begun last more so_far first in
         let steady = chain_steady root of_peer begun last more so_far first in
-        let end = least (pages_told laws n encoding values local peer last next e) (nodes_told laws n encoding values local peer last next e) last next (answered_pays last e.reply e.answer root of_peer steady one_digest is_there tells next e.takes) in (
+        let end = least (pages_told laws n encoding values local peer last next e) (nodes_told laws n encoding values local peer last next e) last next
+        (answered_pays last e.reply e.answer root of_peer steady one_digest is_there tells next e.takes) in (
           omega (arith, chain.0, end.0, ap (pages_by laws peer root is_there) b.asks_root, ap (pages_of laws peer root is_there) b.nothing_found),
           omega (arith, chain.1, end.1, ap (nodes_by laws peer root is_there) b.asks_root, ap (nodes_of laws peer root is_there) b.nothing_found),
         )
@@ -161,7 +176,8 @@ module _ {K V H : Type 0} (laws : Laws K V H) (o : IsTotalOrder laws.cmp) (eqv :
     abbrev IsLimited : Underway K V → Type 0
     IsLimited u = Wants laws local peer u.found × AsksLacked laws local peer u.asked
 
-    chain_keys : (before last : Underway K V) (more : List (Underway K V)) (exchanges : AreExchangesTo laws n encoding values local peer before more last) → IsSteady laws peer root before → IsLimited before
+    chain_keys : (before last : Underway K V) (more : List (Underway K V)) (exchanges : AreExchangesTo laws n encoding values local peer before more last)
+        → IsSteady laws peer root before → IsLimited before
         → (keys_in before more last exchanges + left last ≤ left before) × IsLimited last
     chain_keys before last [] is steady limited = (omega (arith, ap left is), subst IsLimited is limited)
     chain_keys before last (next ∷ more) (message, e, others) steady limited =

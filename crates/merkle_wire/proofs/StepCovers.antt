@@ -42,8 +42,11 @@ module _ {K V : Type 0} (cmp : K → K → Ordering) (o : IsTotalOrder cmp) wher
   -- a map finds each of its pairs
   pub finds_own : (m : List (K × V)) → IsMap cmp m → AllByRecursion (λ r. get cmp m r.0 ≡ Some r.1) m
   finds_own [] a = tt
-  finds_own (r ∷ rs) a =
-      (at_head cmp o r rs r.0 (tied_itself o r.0), each-with (λ p. get cmp rs p.0 ≡ Some p.1) (λ p. get cmp (r ∷ rs) p.0 ≡ Some p.1) rs (λ p e. get_behind cmp o (r ∷ []) rs p.0 p.1 a e) (finds_own rs a.1))
+  finds_own (r ∷ rs) a = (
+    at_head cmp o r rs r.0 (tied_itself o r.0),
+    each-with (λ p. get cmp rs p.0 ≡ Some p.1) (λ p. get cmp (r ∷ rs) p.0 ≡ Some p.1) rs
+        (λ p e. get_behind cmp o (r ∷ []) rs p.0 p.1 a e) (finds_own rs a.1),
+  )
 
   -- a key that a map has is one of its keys
   pub is_key : (m : List (K × V)) (k : K) (v : V) → get cmp m k ≡ Some v → AnyByRecursion (λ r. Same cmp k r.0) m
@@ -54,7 +57,8 @@ module _ {K V : Type 0} (cmp : K → K → Ordering) (o : IsTotalOrder cmp) wher
       go (inl n) more = inr (more (sym (past_head cmp o r rs k n) ∙ e))
       go (inr n) more = inl (tied_back o r.0 k (is_equal (cmp r.0 k) n))
 
-module _ {K V H : Type 0} (laws : Laws K V H) (o : IsTotalOrder laws.cmp) (eqv : IsEquivalence laws.eq) (local peer : Side K V H) (root tree : Tree K (List ℕ)) (sides : AreSides laws local peer root tree) where
+module _ {K V H : Type 0} (laws : Laws K V H) (o : IsTotalOrder laws.cmp) (eqv : IsEquivalence laws.eq) (local peer : Side K V H) (root tree : Tree K (List ℕ))
+    (sides : AreSides laws local peer root tree) where
   abbrev Lacked : K → Type 0
   Lacked = IsLacked laws local peer
 
@@ -82,19 +86,22 @@ module _ {K V H : Type 0} (laws : Laws K V H) (o : IsTotalOrder laws.cmp) (eqv :
     pub outlines_keep : (ts : List (OwnedGap K × Outline K V)) (before after : Found K V) (k : K) → AreTaken laws local ts before after → Among k before → Among k after
     outlines_keep = all_keep
 
-    pub outlines_new : (ts us : List (OwnedGap K × Outline K V)) (before after : Found K V) → AllZip SameTold ts us → AllByRecursion IsToldOf us → AreTaken laws local ts before after → AllByRecursion New before.rows → AllByRecursion New after.rows
+    pub outlines_new : (ts us : List (OwnedGap K × Outline K V)) (before after : Found K V) → AllZip SameTold ts us → AllByRecursion IsToldOf us
+        → AreTaken laws local ts before after → AllByRecursion New before.rows → AllByRecursion New after.rows
     outlines_new [] [] before after s told taken a = subst (λ f. AllByRecursion New f.rows) (sym taken) a
     outlines_new [] (u ∷ us) before after s told taken a = absurd s
     outlines_new (t ∷ ts) [] before after s told taken a = absurd s
     outlines_new (t ∷ ts) (u ∷ us) before after s told (mid, one, more) a =
         outlines_new ts us mid after s.1 told.1 more (one_new laws o eqv local peer root tree sides with_pages (owned_gap t.0) (owned_gap u.0) t.1 u.1 before mid s.0.1 told.0 one a)
 
-    pub outlines_cover : IsFaithfulSession laws local peer → (ts us : List (OwnedGap K × Outline K V)) (before after : Found K V) (k : K) → Lacked k → AllZip SameTold ts us → AllByRecursion IsToldOf us → AreTaken laws local ts before after
+    pub outlines_cover : IsFaithfulSession laws local peer → (ts us : List (OwnedGap K × Outline K V)) (before after : Found K V) (k : K) → Lacked k
+        → AllZip SameTold ts us → AllByRecursion IsToldOf us → AreTaken laws local ts before after
         → AnyByRecursion (λ g. IsAbout laws o eqv local peer root tree sides with_pages k (owned_gap g)) (map (λ t. t.0) ts) → Among k after
     outlines_cover faith [] us before after k l s told taken i = absurd i
     outlines_cover faith (t ∷ ts) [] before after k l s told taken i = absurd s
     outlines_cover faith (t ∷ ts) (u ∷ us) before after k l s told (mid, one, more) (inl i) =
-        all_keep ts mid after k more (one_covers laws o eqv local peer root tree sides faith with_pages (owned_gap t.0) (owned_gap u.0) t.1 u.1 before mid k l (same_gap t.0 u.0 s.0.0) s.0.1 i told.0 one)
+        all_keep ts mid after k more (one_covers laws o eqv local peer root tree sides faith with_pages (owned_gap t.0) (owned_gap u.0) t.1 u.1 before mid k l
+        (same_gap t.0 u.0 s.0.0) s.0.1 i told.0 one)
     outlines_cover faith (t ∷ ts) (u ∷ us) before after k l s told (mid, one, more) (inr i) = outlines_cover faith ts us mid after k l s.1 told.1 more i
 
   -- rows that are added
@@ -132,9 +139,11 @@ module _ {K V H : Type 0} (laws : Laws K V H) (o : IsTotalOrder laws.cmp) (eqv :
     one_row_covers : (t u : Wanted K × Option V) (k : K) → Lacked k → SameValueAt t u → IsValueAt u → Same laws.cmp k t.0.key → AnyByRecursion (λ r. Same laws.cmp k r.0) (value_row t)
     one_row_covers (w, Some v) u k l s is i = inl i
     one_row_covers (w, None) (x, Some y) k l s is i = absurd s.1
-    one_row_covers (w, None) (x, None) k l s is i = absurd (has_row_there laws o eqv local peer k l (get_same laws.cmp o peer.rows k w.key i ∙ get_same laws.cmp o peer.rows w.key x.key (same_key w x s.0) ∙ sym is))
+    one_row_covers (w, None) (x, None) k l s is i =
+        absurd (has_row_there laws o eqv local peer k l (get_same laws.cmp o peer.rows k w.key i ∙ get_same laws.cmp o peer.rows w.key x.key (same_key w x s.0) ∙ sym is))
 
-    pub values_cover : (ts us : List (Wanted K × Option V)) (k : K) → Lacked k → AllZip SameValueAt ts us → AllByRecursion IsValueAt us → AnyByRecursion (λ w. Same laws.cmp k w.key) (map (λ t. t.0) ts)
+    pub values_cover : (ts us : List (Wanted K × Option V)) (k : K) → Lacked k → AllZip SameValueAt ts us → AllByRecursion IsValueAt us
+        → AnyByRecursion (λ w. Same laws.cmp k w.key) (map (λ t. t.0) ts)
         → AnyByRecursion (λ r. Same laws.cmp k r.0) (flat_map value_row ts)
     values_cover [] us k l s a i = absurd i
     values_cover (t ∷ ts) [] k l s a i = absurd s
@@ -185,7 +194,8 @@ module _ {K V H : Type 0} (laws : Laws K V H) (o : IsTotalOrder laws.cmp) (eqv :
         low (q ∷ qs) a (inl s) = low_up laws.cmp o p.0 q.0 k a.0 (same_down laws.cmp o k q.0 s)
         low (q ∷ qs) a (inr i) = low qs a.1 i
 
-    one_part_covers : (t u : OwnedGap K × Part K V) (left : List (OwnedGap K)) (k : K) → Lacked k → SamePartOf t u → IsPart u → IsBehind laws.cmp (owned_gap t.0) t.1 left → IsInGap laws.cmp k (owned_gap t.0)
+    one_part_covers : (t u : OwnedGap K × Part K V) (left : List (OwnedGap K)) (k : K) → Lacked k → SamePartOf t u → IsPart u → IsBehind laws.cmp (owned_gap t.0) t.1 left
+        → IsInGap laws.cmp k (owned_gap t.0)
         → AnyByRecursion (λ r. Same laws.cmp k r.0) t.1.rows ⊎ AnyByRecursion (λ g. IsInGap laws.cmp k (owned_gap g)) left
     one_part_covers t u left k l s (more, is, whole, some) behind i =
         let (v, there) = row_at k l in
@@ -200,25 +210,30 @@ module _ {K V H : Type 0} (laws : Laws K V H) (o : IsTotalOrder laws.cmp) (eqv :
         go (inr a) (inr (row, rows, own, part, e, same, is_own)) =
             let ascends : IsMap laws.cmp (u.1.rows ++ more) = subst (IsMap laws.cmp) is (map_at laws.cmp o (λ j. is_in_gap laws.cmp j (owned_gap u.0)) peer.rows sides.up_peer) in
             let low = last_low row rows u.1.rows k (subst (λ xs. AllZip (SameRow laws.cmp laws.eq) xs u.1.rows) e s.1.0) (before_low u.1.rows more k ascends a) in
-            inr (subst (AnyByRecursion (λ g. IsInGap laws.cmp k (owned_gap g))) (sym is_own) (inl (in_gap-alike laws.cmp o (part_behind (owned_gap t.0) (last_key row.0 rows)) (owned_gap own) k same (low, i.1))))
+            inr (subst (AnyByRecursion (λ g. IsInGap laws.cmp k (owned_gap g))) (sym is_own)
+            (inl (in_gap-alike laws.cmp o (part_behind (owned_gap t.0) (last_key row.0 rows)) (owned_gap own) k same (low, i.1))))
 
     pub parts_cover : (ts us : List (OwnedGap K × Part K V)) (left : List (OwnedGap K)) (k : K) → Lacked k → AllZip SamePartOf ts us → AllByRecursion IsPart us → AreBehind laws.cmp ts left
-        → AnyByRecursion (λ g. IsInGap laws.cmp k (owned_gap g)) (map (λ t. t.0) ts) → AnyByRecursion (λ r. Same laws.cmp k r.0) (flat_map (λ t. t.1.rows) ts) ⊎ AnyByRecursion (λ g. IsInGap laws.cmp k (owned_gap g)) left
+        → AnyByRecursion (λ g. IsInGap laws.cmp k (owned_gap g)) (map (λ t. t.0) ts) → AnyByRecursion (λ r. Same laws.cmp k r.0) (flat_map (λ t. t.1.rows) ts)
+        ⊎ AnyByRecursion (λ g. IsInGap laws.cmp k (owned_gap g)) left
     parts_cover [] us left k l s a behind i = absurd i
     parts_cover (t ∷ ts) [] left k l s a behind i = absurd s
     parts_cover (t ∷ ts) (u ∷ us) left k l s a (first, rest, one, others, e) (inl i) = go (one_part_covers t u first k l s.0 a.0 one i)
       where
-        go : AnyByRecursion (λ r. Same laws.cmp k r.0) t.1.rows ⊎ AnyByRecursion (λ g. IsInGap laws.cmp k (owned_gap g)) first → AnyByRecursion (λ r. Same laws.cmp k r.0) (flat_map (λ x. x.1.rows) (t ∷ ts)) ⊎ AnyByRecursion (λ g. IsInGap laws.cmp k (owned_gap g)) left
+        go : AnyByRecursion (λ r. Same laws.cmp k r.0) t.1.rows ⊎ AnyByRecursion (λ g. IsInGap laws.cmp k (owned_gap g)) first
+            → AnyByRecursion (λ r. Same laws.cmp k r.0) (flat_map (λ x. x.1.rows) (t ∷ ts)) ⊎ AnyByRecursion (λ g. IsInGap laws.cmp k (owned_gap g)) left
         go (inl b) = inl (any-append (λ r. Same laws.cmp k r.0) t.1.rows (flat_map (λ x. x.1.rows) ts) (inl b))
         go (inr b) = inr (subst (AnyByRecursion (λ g. IsInGap laws.cmp k (owned_gap g))) (sym e) (any-append (λ g. IsInGap laws.cmp k (owned_gap g)) first rest (inl b)))
     parts_cover (t ∷ ts) (u ∷ us) left k l s a (first, rest, one, others, e) (inr i) = go (parts_cover ts us rest k l s.1 a.1 others i)
       where
-        go : AnyByRecursion (λ r. Same laws.cmp k r.0) (flat_map (λ x. x.1.rows) ts) ⊎ AnyByRecursion (λ g. IsInGap laws.cmp k (owned_gap g)) rest → AnyByRecursion (λ r. Same laws.cmp k r.0) (flat_map (λ x. x.1.rows) (t ∷ ts)) ⊎ AnyByRecursion (λ g. IsInGap laws.cmp k (owned_gap g)) left
+        go : AnyByRecursion (λ r. Same laws.cmp k r.0) (flat_map (λ x. x.1.rows) ts) ⊎ AnyByRecursion (λ g. IsInGap laws.cmp k (owned_gap g)) rest
+            → AnyByRecursion (λ r. Same laws.cmp k r.0) (flat_map (λ x. x.1.rows) (t ∷ ts)) ⊎ AnyByRecursion (λ g. IsInGap laws.cmp k (owned_gap g)) left
         go (inl b) = inl (any-append (λ r. Same laws.cmp k r.0) t.1.rows (flat_map (λ x. x.1.rows) ts) (inr b))
         go (inr b) = inr (subst (AnyByRecursion (λ g. IsInGap laws.cmp k (owned_gap g))) (sym e) (any-append (λ g. IsInGap laws.cmp k (owned_gap g)) first rest (inr b)))
 
   -- the root page
-  pub root_covers : IsFaithfulSession laws local peer → (before after : Found K V) (k : K) → Lacked k → IsRootTaken laws local (whole_digest (whole_item peer.format laws.bytes_of tree)) before after → Among k after
+  pub root_covers : IsFaithfulSession laws local peer → (before after : Found K V) (k : K) → Lacked k
+      → IsRootTaken laws local (whole_digest (whole_item peer.format laws.bytes_of tree)) before after → Among k after
   root_covers faith before after k (d, there, lacks) = by tree refl
     where
       by : (t : Tree K (List ℕ)) → t ≡ tree → IsRootTaken laws local (whole_digest (whole_item peer.format laws.bytes_of t)) before after → Among k after
@@ -230,7 +245,8 @@ module _ {K V H : Type 0} (laws : Laws K V H) (o : IsTotalOrder laws.cmp) (eqv :
           let t = page l c (node h j x r) in
           absurd (none_hidden laws o eqv local peer root tree sides faith.faithful.same_pages k (d, there, lacks) t (subst (IsPageIn t) e (itself t)) own d
           (ap (λ (u : Tree K (List ℕ)). get laws.cmp (pairs u) k) e ∙ at_tree laws o eqv local peer root tree sides k ∙ there))
-      by (page l c (node h j x r)) e (inr (lacks, inl taken)) = subst (Among k) (sym taken) (inr (inr (inr (inl (any-append (IsInGap laws.cmp k) before.whole (everywhere ∷ []) (inr (inl (tt, tt))))))))
+      by (page l c (node h j x r)) e (inr (lacks, inl taken)) = subst (Among k) (sym taken)
+          (inr (inr (inr (inl (any-append (IsInGap laws.cmp k) before.whole (everywhere ∷ []) (inr (inl (tt, tt))))))))
       by (page l c (node h j x r)) e (inr (lacks, inr taken)) = subst (Among k) (sym taken) (inl (any-append (IsInGap laws.cmp k) before.below (everywhere ∷ []) (inr (inl (tt, tt)))))
 
   -- what was found before still is, and the rows stay
@@ -239,10 +255,12 @@ module _ {K V H : Type 0} (laws : Laws K V H) (o : IsTotalOrder laws.cmp) (eqv :
   root_takes None before after taken = ((λ k a. subst (Among k) (sym taken) a), ap (λ f. f.rows) taken)
   root_takes (Some d) before after (inl (own, taken)) = ((λ k a. subst (Among k) (sym taken) a), ap (λ f. f.rows) taken)
   root_takes (Some d) before after (inr (lacks, inl taken)) = (
-    (λ k a. subst (Among k) (sym taken) (among-more laws o local peer root tree k before (record before { whole = before.whole ++ everywhere ∷ [] }) (λ b. b) (λ b. b) (λ b. b) (λ b. any-append (IsInGap laws.cmp k) before.whole (everywhere ∷ []) (inl b)) (λ b. b) a)),
+    (λ k a. subst (Among k) (sym taken) (among-more laws o local peer root tree k before (record before { whole = before.whole ++ everywhere ∷ [] }) (λ b. b) (λ b. b)
+        (λ b. b) (λ b. any-append (IsInGap laws.cmp k) before.whole (everywhere ∷ []) (inl b)) (λ b. b) a)),
     ap (λ f. f.rows) taken,
   )
   root_takes (Some d) before after (inr (lacks, inr taken)) = (
-    (λ k a. subst (Among k) (sym taken) (among-more laws o local peer root tree k before (record before { below = before.below ++ everywhere ∷ [] }) (λ b. any-append (IsInGap laws.cmp k) before.below (everywhere ∷ []) (inl b)) (λ b. b) (λ b. b) (λ b. b) (λ b. b) a)),
+    (λ k a. subst (Among k) (sym taken) (among-more laws o local peer root tree k before (record before { below = before.below ++ everywhere ∷ [] })
+        (λ b. any-append (IsInGap laws.cmp k) before.below (everywhere ∷ []) (inl b)) (λ b. b) (λ b. b) (λ b. b) (λ b. b) a)),
     ap (λ f. f.rows) taken,
   )

@@ -64,7 +64,8 @@ module _ {K : Type 0} (cmp : K → K → Ordering) (encoding : K → List ℕ) (
   gap_tells last g h r s e =
       let behind = bound_key encoding last in
       let (first, more) = bound_tells last g.after h.after (bound_behind encoding (behind g.after) g.before ++ r) (bound_behind encoding (behind h.after) h.before ++ s)
-      (sym (append_assoc (bound_behind encoding last g.after) (bound_behind encoding (behind g.after) g.before) r) ∙ e ∙ append_assoc (bound_behind encoding last h.after) (bound_behind encoding (behind h.after) h.before) s) in
+      (sym (append_assoc (bound_behind encoding last g.after) (bound_behind encoding (behind g.after) g.before) r) ∙ e
+      ∙ append_assoc (bound_behind encoding last h.after) (bound_behind encoding (behind h.after) h.before) s) in
       let (next, rest) = bound_tells (behind g.after) g.before h.before r s (more ∙ ap (λ l. bound_behind encoding l h.before ++ s) (sym (first.1 last))) in
       (((first.0, next.0), first.1 []), next.1 (behind g.after) ∙ ap (λ l. bound_key encoding l h.before) (first.1 last), rest)
 
@@ -72,7 +73,8 @@ module _ {K : Type 0} (cmp : K → K → Ordering) (encoding : K → List ℕ) (
   gaps_tell gs hs e =
       (run_told (λ last g. gap_behind encoding last (owned_gap g)) (λ last g. gap_key encoding last (owned_gap g)) (SameGapTold cmp encoding) gap_tells [] gs hs [] [] (ap (λ t. t ++ []) e)).0
 
-  wanted_tell : (last : List ℕ) (w x : Wanted K) (r s : List ℕ) → key_behind last (encoding w.key) ++ r ≡ key_behind last (encoding x.key) ++ s → (SameWanted cmp encoding) w x × (encoding w.key ≡ encoding x.key) × (r ≡ s)
+  wanted_tell : (last : List ℕ) (w x : Wanted K) (r s : List ℕ) → key_behind last (encoding w.key) ++ r ≡ key_behind last (encoding x.key) ++ s
+      → (SameWanted cmp encoding) w x × (encoding w.key ≡ encoding x.key) × (r ≡ s)
   wanted_tell last w x r s e = let both = behind_told last (encoding w.key) (encoding x.key) r s e in (tells w.key x.key both.0, both.0, both.1)
 
   keys_tell : (ws xs : List (Wanted K)) → keys_bytes encoding [] ws ≡ keys_bytes encoding [] xs → AllZip (SameWanted cmp encoding) ws xs
@@ -83,7 +85,8 @@ module _ {K : Type 0} (cmp : K → K → Ordering) (encoding : K → List ℕ) (
 
   pub question_tells : (x y : Question K) → question_bytes encoding x ≡ question_bytes encoding y → (SameQuestion cmp encoding) x y
   question_tells (Root s) (Root t) e = tt
-  question_tells (Outlines m gs) (Outlines n hs) e = counted_tell m n gs.items hs.items (same_rest 1 2 (count_bytes m ++ gaps_bytes encoding gs.items) (count_bytes n ++ gaps_bytes encoding hs.items) e)
+  question_tells (Outlines m gs) (Outlines n hs) e = counted_tell m n gs.items hs.items
+      (same_rest 1 2 (count_bytes m ++ gaps_bytes encoding gs.items) (count_bytes n ++ gaps_bytes encoding hs.items) e)
   question_tells (Nodes m gs) (Nodes n hs) e = counted_tell m n gs.items hs.items (same_rest 1 3 (count_bytes m ++ gaps_bytes encoding gs.items) (count_bytes n ++ gaps_bytes encoding hs.items) e)
   question_tells (RowsAt ws) (RowsAt xs) e = keys_tell ws.items xs.items (same_rest 1 4 (keys_bytes encoding [] ws.items) (keys_bytes encoding [] xs.items) e)
   question_tells (RowsIn gs) (RowsIn hs) e = gaps_tell gs.items hs.items (same_rest 1 5 (gaps_bytes encoding gs.items) (gaps_bytes encoding hs.items) e)

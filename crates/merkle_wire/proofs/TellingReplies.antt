@@ -22,7 +22,8 @@ use Rattle.merkle_wire.specs.declared.wanted.Wanted.{Wanted}
 -- what was told of the first of one list is what was told of the first of another
 module _ {X Y : Type 0} (bytes : X × Y → List ℕ) (E : X → X → Type 0) (P Q : X × Y → Type 0) (F : X × Y → X × Y → Type 0) (some : (t : X × Y) → 1 ≤ length (bytes t))
     (told : (t u : X × Y) (r s : List ℕ) → E t.0 u.0 → P t → Q u → bytes t ++ r ≡ bytes u ++ s → F t u × (r ≡ s)) where
-  pub told_alike : (ts us : List (X × Y)) (l m : List X) → AllZip E (map (λ t. t.0) ts ++ l) (map (λ t. t.0) us ++ m) → AllByRecursion P ts → AllByRecursion Q us → flat_map bytes ts ≡ flat_map bytes us
+  pub told_alike : (ts us : List (X × Y)) (l m : List X) → AllZip E (map (λ t. t.0) ts ++ l) (map (λ t. t.0) us ++ m) → AllByRecursion P ts → AllByRecursion Q us
+      → flat_map bytes ts ≡ flat_map bytes us
       → AllZip (λ t u. E t.0 u.0 × F t u) ts us
   told_alike [] [] l m s p q e = tt
   told_alike [] (u ∷ us) l m s p q e = absurd (omega (arith, ap length e, some u, length-append (bytes u) (flat_map bytes us)))
@@ -47,12 +48,14 @@ page_tells (Some c) (Some d) r s a b e =
     let both = join_tells c d r s (a ∙ sym b) (let f : c ++ r ≡ d ++ s = cc in f) in
     (ap (λ x. Some x) both.0, both.1)
 
-pages_tell : (ps qs : List (Option (List ℕ))) (r s : List ℕ) → length ps ≡ length qs → AllByRecursion IsPageDigest ps → AllByRecursion IsPageDigest qs → pages_bytes ps ++ r ≡ pages_bytes qs ++ s → (ps ≡ qs) × (r ≡ s)
+pages_tell : (ps qs : List (Option (List ℕ))) (r s : List ℕ) → length ps ≡ length qs → AllByRecursion IsPageDigest ps → AllByRecursion IsPageDigest qs
+    → pages_bytes ps ++ r ≡ pages_bytes qs ++ s → (ps ≡ qs) × (r ≡ s)
 pages_tell [] [] r s n a b e = (refl, e)
 pages_tell [] (q ∷ qs) r s n a b e = absurd (omega (arith, n))
 pages_tell (p ∷ ps) [] r s n a b e = absurd (omega (arith, n))
 pages_tell (p ∷ ps) (q ∷ qs) r s n a b e =
-    let (first, more) = page_tells p q (pages_bytes ps ++ r) (pages_bytes qs ++ s) a.0 b.0 (sym (append_assoc (option_bytes (λ d. d) p) (pages_bytes ps) r) ∙ e ∙ append_assoc (option_bytes (λ d. d) q) (pages_bytes qs) s) in
+    let (first, more) = page_tells p q (pages_bytes ps ++ r) (pages_bytes qs ++ s) a.0 b.0
+    (sym (append_assoc (option_bytes (λ d. d) p) (pages_bytes ps) r) ∙ e ∙ append_assoc (option_bytes (λ d. d) q) (pages_bytes qs) s) in
     let (rest, f) = pages_tell ps qs r s (omega (arith, n)) a.1 b.1 more in
     (λ i. first i ∷ rest i, f)
 
@@ -63,7 +66,8 @@ pages_begin ps [] r s a b n e = absurd (omega (arith, n))
 pages_begin [] (q ∷ qs) r s a b n e = (q, pages_bytes qs ++ s, b.0, e ∙ append_assoc (option_bytes (λ d. d) q) (pages_bytes qs) s)
 pages_begin (p ∷ ps) (q ∷ qs) r s a b n e =
     pages_begin ps qs r s a.1 b.1 (omega (arith, n))
-    (page_tells p q (pages_bytes ps ++ r) (pages_bytes qs ++ s) a.0 b.0 (sym (append_assoc (option_bytes (λ d. d) p) (pages_bytes ps) r) ∙ e ∙ append_assoc (option_bytes (λ d. d) q) (pages_bytes qs) s)).1
+    (page_tells p q (pages_bytes ps ++ r) (pages_bytes qs ++ s) a.0 b.0
+    (sym (append_assoc (option_bytes (λ d. d) p) (pages_bytes ps) r) ∙ e ∙ append_assoc (option_bytes (λ d. d) q) (pages_bytes qs) s)).1
 
 -- after digests of n bytes there are as many where others have more
 pub digests_begin : (n : ℕ) (cs ds : List (List ℕ)) (r s : List ℕ) → AllByRecursion (λ d. length d ≡ n) cs → AllByRecursion (λ d. length d ≡ n) ds → length cs < length ds
@@ -119,19 +123,22 @@ module _ {K : Type 0} (cmp : K → K → Ordering) where
 
 module _ {K V : Type 0} (cmp : K → K → Ordering) (eq : V → V → Bool) (encoding : K → List ℕ) (values : V → List ℕ)
     (tells : (x y : K) → encoding x ≡ encoding y → Same cmp x y) (tell_value : (x y : V) (r s : List ℕ) → values x ++ r ≡ values y ++ s → (eq x y ≡ true) × (r ≡ s)) where
-  row_tells : (last : List ℕ) (a b : K × V) (r s : List ℕ) → row_behind encoding values last a ++ r ≡ row_behind encoding values last b ++ s → (SameRow cmp eq) a b × (encoding a.0 ≡ encoding b.0) × (r ≡ s)
+  row_tells : (last : List ℕ) (a b : K × V) (r s : List ℕ) → row_behind encoding values last a ++ r ≡ row_behind encoding values last b ++ s → (SameRow cmp eq) a b
+      × (encoding a.0 ≡ encoding b.0) × (r ≡ s)
   row_tells last a b r s e =
       let keys = behind_told last (encoding a.0) (encoding b.0) (values a.1 ++ r) (values b.1 ++ s)
       (sym (append_assoc (key_behind last (encoding a.0)) (values a.1) r) ∙ e ∙ append_assoc (key_behind last (encoding b.0)) (values b.1) s) in
       let rest = tell_value a.1 b.1 r s keys.1 in
       ((tells a.0 b.0 keys.0, rest.0), keys.0, rest.1)
 
-  pub rows_tell : (last : List ℕ) (js bs : List (K × V)) (r s : List ℕ) → run_bytes (row_behind encoding values) (row_key encoding) last js ++ r ≡ run_bytes (row_behind encoding values) (row_key encoding) last bs ++ s
+  pub rows_tell : (last : List ℕ) (js bs : List (K × V)) (r s : List ℕ) → run_bytes (row_behind encoding values) (row_key encoding) last js ++ r ≡ run_bytes
+      (row_behind encoding values) (row_key encoding) last bs ++ s
       → AllZip (SameRow cmp eq) js bs × (r ≡ s)
   rows_tell last js bs r s e = let told = run_told (row_behind encoding values) (row_key encoding) (SameRow cmp eq) row_tells last js bs r s e in (told.0, told.2)
 
   -- nodes with equal keys and digests of n bytes
-  digests_tell : (n : ℕ) (js bs : List (K × List ℕ)) (r s : List ℕ) → AllZip (Same cmp) (keys_among js) (keys_among bs) → AllByRecursion (λ d. length d.1 ≡ n) js → AllByRecursion (λ d. length d.1 ≡ n) bs
+  digests_tell : (n : ℕ) (js bs : List (K × List ℕ)) (r s : List ℕ) → AllZip (Same cmp) (keys_among js) (keys_among bs) → AllByRecursion (λ d. length d.1 ≡ n) js
+      → AllByRecursion (λ d. length d.1 ≡ n) bs
       → flat_map (λ p. p.1) js ++ r ≡ flat_map (λ p. p.1) bs ++ s → SameMap cmp (λ d e. d ≡ e) js bs × (r ≡ s)
   digests_tell n [] [] r s k a b e = (tt, e)
   digests_tell n [] (y ∷ bs) r s k a b e = absurd k
@@ -145,7 +152,8 @@ module _ {K V : Type 0} (cmp : K → K → Ordering) (eq : V → V → Bool) (en
   first_byte : (a b : ℕ) (r s : List ℕ) → a ∷ r ≡ b ∷ s → (a ≡ b) × (r ≡ s)
   first_byte a b r s e = (cc, cc)
 
-  pub outline_tells : (n : ℕ) (last : List ℕ) (x y : Outline K V) (r s : List ℕ) → Fits n x → Fits n y → outline_bytes encoding values last x ++ r ≡ outline_bytes encoding values last y ++ s → (SameOutline cmp eq) x y × (r ≡ s)
+  pub outline_tells : (n : ℕ) (last : List ℕ) (x y : Outline K V) (r s : List ℕ) → Fits n x → Fits n y
+      → outline_bytes encoding values last x ++ r ≡ outline_bytes encoding values last y ++ s → (SameOutline cmp eq) x y × (r ≡ s)
   outline_tells n last (rows_told js) (rows_told bs) r s f g e =
       let run = run_bytes (row_behind encoding values) (row_key encoding) last in
       rows_tell last js bs r s (first_byte 0 0 (run js ++ r) (run bs ++ s) e).1
@@ -153,14 +161,16 @@ module _ {K V : Type 0} (cmp : K → K → Ordering) (eq : V → V → Bool) (en
       let digests : List (K × List ℕ) → List ℕ = flat_map (λ p. p.1) in
       let keys = keys_told encoding last in
       let flat = (first_byte 1 1 ((keys (keys_among js) ++ digests js) ++ r) ((keys (keys_among bs) ++ digests bs) ++ s) e).1 in
-      let (same, rest) = keys_tell cmp encoding tells last (keys_among js) (keys_among bs) (digests js ++ r) (digests bs ++ s) (sym (append_assoc (keys (keys_among js)) (digests js) r) ∙ flat ∙ append_assoc (keys (keys_among bs)) (digests bs) s) in
+      let (same, rest) = keys_tell cmp encoding tells last (keys_among js) (keys_among bs) (digests js ++ r) (digests bs ++ s)
+      (sym (append_assoc (keys (keys_among js)) (digests js) r) ∙ flat ∙ append_assoc (keys (keys_among bs)) (digests bs) s) in
       digests_tell n js bs r s same f g rest
   outline_tells n last (page_told c js ps) (page_told d bs qs) r s f g e =
       let keys = keys_told encoding last in
       let flat = (first_byte 2 2 ((c ++ (keys js ++ pages_bytes ps)) ++ r) ((d ++ (keys bs ++ pages_bytes qs)) ++ s) e).1 in
       let (first, more) = join_tells c d ((keys js ++ pages_bytes ps) ++ r) ((keys bs ++ pages_bytes qs) ++ s) (f.0 ∙ sym g.0)
       (sym (append_assoc c (keys js ++ pages_bytes ps) r) ∙ flat ∙ append_assoc d (keys bs ++ pages_bytes qs) s) in
-      let (same, rest) = keys_tell cmp encoding tells last js bs (pages_bytes ps ++ r) (pages_bytes qs ++ s) (sym (append_assoc (keys js) (pages_bytes ps) r) ∙ more ∙ append_assoc (keys bs) (pages_bytes qs) s) in
+      let (same, rest) = keys_tell cmp encoding tells last js bs (pages_bytes ps ++ r) (pages_bytes qs ++ s)
+      (sym (append_assoc (keys js) (pages_bytes ps) r) ∙ more ∙ append_assoc (keys bs) (pages_bytes qs) s) in
       let (pages, end) = pages_tell ps qs r s (f.1 ∙ ap suc (same_length cmp js bs same) ∙ sym g.1) f.2 g.2 rest in
       ((first, same_keys cmp js bs same, pages), end)
   outline_tells n last (rows_told js) (digests_told bs) r s f g e = absurd (omega (arith, (first_byte 0 1 _ _ e).0))
@@ -181,7 +191,8 @@ module _ {K V : Type 0} (cmp : K → K → Ordering) (eq : V → V → Bool) (en
   pub part_tells : (last : List ℕ) (a b : Part K V) (r s : List ℕ) → part_bytes encoding values last a ++ r ≡ part_bytes encoding values last b ++ s → (SamePart cmp eq) a b × (r ≡ s)
   part_tells last a b r s e =
       let run = run_bytes (row_behind encoding values) (row_key encoding) last in
-      let (rows, rest) = rows_tell last a.rows b.rows (cond a.whole 1 0 ∷ r) (cond b.whole 1 0 ∷ s) (sym (append_assoc (run a.rows) (cond a.whole 1 0 ∷ []) r) ∙ e ∙ append_assoc (run b.rows) (cond b.whole 1 0 ∷ []) s) in
+      let (rows, rest) = rows_tell last a.rows b.rows (cond a.whole 1 0 ∷ r) (cond b.whole 1 0 ∷ s)
+      (sym (append_assoc (run a.rows) (cond a.whole 1 0 ∷ []) r) ∙ e ∙ append_assoc (run b.rows) (cond b.whole 1 0 ∷ []) s) in
       let (flags, end) = first_byte (cond a.whole 1 0) (cond b.whole 1 0) r s rest in
       ((rows, flag a.whole b.whole flags), end)
     where
@@ -207,7 +218,8 @@ module _ {K V : Type 0} (cmp : K → K → Ordering) (eq : V → V → Bool) (en
   -- replies to questions about the same gaps or keys
   module _ (E : OwnedGap K → OwnedGap K → Type 0) (after : (g h : OwnedGap K) → E g h → bound_key encoding [] g.after ≡ bound_key encoding [] h.after) where
     pub outlines_tell : (n : ℕ) (ts us : List (OwnedGap K × Outline K V)) (l m : List (OwnedGap K)) → AllZip E (map (λ t. t.0) ts ++ l) (map (λ t. t.0) us ++ m)
-        → AllByRecursion (λ t. Fits n t.1) ts → AllByRecursion (λ t. Fits n t.1) us → outlines_bytes encoding values ts ≡ outlines_bytes encoding values us → AllZip (λ t u. E t.0 u.0 × (SameOutline cmp eq) t.1 u.1) ts us
+        → AllByRecursion (λ t. Fits n t.1) ts → AllByRecursion (λ t. Fits n t.1) us → outlines_bytes encoding values ts ≡ outlines_bytes encoding values us
+        → AllZip (λ t u. E t.0 u.0 × (SameOutline cmp eq) t.1 u.1) ts us
     outlines_tell n = told_alike (λ t. outline_bytes encoding values (bound_key encoding [] t.0.after) t.1) E (λ t. Fits n t.1) (λ t. Fits n t.1) (λ t u. (SameOutline cmp eq) t.1 u.1)
         (λ t. outline_some (bound_key encoding [] t.0.after) t.1)
         (λ t u r s same f g e. outline_tells n (bound_key encoding [] t.0.after) t.1 u.1 r s f g (e ∙ ap (λ l. outline_bytes encoding values l u.1 ++ s) (sym (after t.0 u.0 same))))

@@ -142,4 +142,10 @@ module _ {K V H : Type 0} (laws : Laws K V H) (o : IsTotalOrder laws.cmp) (local
   new_gaps_times g (j ∷ ks) [] new is up = absurd is
   new_gaps_times g (j ∷ ks) (page ∷ pages) new (first, rest, one, more, e) up =
       subst (λ hs. total (times_in laws.cmp k) hs + total (times_at laws.cmp k) (j ∷ ks) ≤ times_in laws.cmp k g) (sym e)
-      (omega (arith, total-append (times_in laws.cmp k) first rest, new_gap_times (part_before g j) page first one, new_gaps_times (part_behind g j) ks pages rest more up.2, part_times laws.cmp o k g j (up.0, up.1)))
+      (omega (
+        arith,
+        total-append (times_in laws.cmp k) first rest,
+        new_gap_times (part_before g j) page first one,
+        new_gaps_times (part_behind g j) ks pages rest more up.2,
+        part_times laws.cmp o k g j (up.0, up.1),
+      ))

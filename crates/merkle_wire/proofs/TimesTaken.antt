@@ -78,16 +78,24 @@ module _ {K V H : Type 0} (laws : Laws K V H) (o : IsTotalOrder laws.cmp) (local
   keys_added before after nodes e =
       let new = filter (λ m. not (has_digest laws local m.0 m.1)) nodes in
       subst (λ f. found f ≤ found before + total at (keys_among nodes)) (sym e)
-      (omega (arith, total-append at before.wanted (new_keys laws local nodes), total-mapped at (λ m. m.0) new, total-mapped at (λ m. m.0) nodes, total-filter (λ m. at m.0) (λ m. not (has_digest laws local m.0 m.1)) nodes))
+      (omega (
+        arith,
+        total-append at before.wanted (new_keys laws local nodes),
+        total-mapped at (λ m. m.0) new,
+        total-mapped at (λ m. m.0) nodes,
+        total-filter (λ m. at m.0) (λ m. not (has_digest laws local m.0 m.1)) nodes,
+      ))
 
-  own_times : (g h : Gap K) (keys : List K) (nodes : List (Gap K)) → SameGap laws.cmp g h → SameKeys laws.cmp keys (keys_of h) → IsGapOrNone laws local g nodes → total (times_over laws peer root k) nodes ≤ total at keys
+  own_times : (g h : Gap K) (keys : List K) (nodes : List (Gap K)) → SameGap laws.cmp g h → SameKeys laws.cmp keys (keys_of h) → IsGapOrNone laws local g nodes
+      → total (times_over laws peer root k) nodes ≤ total at keys
   own_times g h keys [] s are one = omega arith
   own_times g h keys (own ∷ []) s are one =
       omega (arith, over_times own h (same_gap-trans laws.cmp o own g h (same_gap-back laws.cmp o g own one) s), total-same laws.cmp o k keys (keys_of h) are)
   own_times g h keys (own ∷ other ∷ others) s are one = absurd one
 
   one_times : (with_pages : Bool) (g h : Gap K) (x y : Outline K V) (before after : Found K V) → SameGap laws.cmp g h → SameOutline laws.cmp laws.eq x y
-      → IsTold laws.cmp peer.rows with_pages (outline_over peer.format laws.bytes_of laws.cmp tree h) y → LiesIn laws.cmp n g x → IsTaken laws local g x before after → found after ≤ found before + times_about with_pages g
+      → IsTold laws.cmp peer.rows with_pages (outline_over peer.format laws.bytes_of laws.cmp tree h) y → LiesIn laws.cmp n g x → IsTaken laws local g x before after
+      → found after ≤ found before + times_about with_pages g
   one_times true g h (rows_told rs) y before after s same told lies taken =
       omega (arith, rows_added before after rs taken, total-mapped at (λ r. r.0) rs, ascend_times laws.cmp o k g (map (λ r. r.0) rs) lies)
   one_times true g h (digests_told ns) y before after s same told lies taken =
@@ -111,13 +119,20 @@ module _ {K V H : Type 0} (laws : Laws K V H) (o : IsTotalOrder laws.cmp) (local
   one_times false g h (page_told c js ps) (digests_told ms) before after s same told lies taken = absurd same
 
   -- what was told of pages is taken
-  pub outlines_times : (E : OwnedGap K → OwnedGap K → Type 0) → ((g h : OwnedGap K) → E g h → SameGap laws.cmp (owned_gap g) (owned_gap h)) → (with_pages : Bool) (ts us : List (OwnedGap K × Outline K V)) (before after : Found K V)
-      → AllZip (λ t u. E t.0 u.0 × SameOutline laws.cmp laws.eq t.1 u.1) ts us → AllByRecursion (λ u. IsTold laws.cmp peer.rows with_pages (outline_over peer.format laws.bytes_of laws.cmp tree (owned_gap u.0)) u.1) us
-      → AllByRecursion (λ t. LiesIn laws.cmp n (owned_gap t.0) t.1) ts → AreTaken laws local ts before after → found after ≤ found before + total (λ g. times_about with_pages (owned_gap g)) (map (λ t. t.0) ts)
+  pub outlines_times : (E : OwnedGap K → OwnedGap K → Type 0) → ((g h : OwnedGap K) → E g h → SameGap laws.cmp (owned_gap g) (owned_gap h))
+      → (with_pages : Bool) (ts us : List (OwnedGap K × Outline K V)) (before after : Found K V)
+      → AllZip (λ t u. E t.0 u.0 × SameOutline laws.cmp laws.eq t.1 u.1) ts us
+      → AllByRecursion (λ u. IsTold laws.cmp peer.rows with_pages (outline_over peer.format laws.bytes_of laws.cmp tree (owned_gap u.0)) u.1) us
+      → AllByRecursion (λ t. LiesIn laws.cmp n (owned_gap t.0) t.1) ts → AreTaken laws local ts before after
+      → found after ≤ found before + total (λ g. times_about with_pages (owned_gap g)) (map (λ t. t.0) ts)
   outlines_times E gap with_pages [] us before after s told lies taken = omega (arith, ap found taken)
   outlines_times E gap with_pages (t ∷ ts) [] before after s told lies taken = absurd s
   outlines_times E gap with_pages (t ∷ ts) (u ∷ us) before after s told lies (mid, one, more) =
-      omega (arith, one_times with_pages (owned_gap t.0) (owned_gap u.0) t.1 u.1 before mid (gap t.0 u.0 s.0.0) s.0.1 told.0 lies.0 one, outlines_times E gap with_pages ts us mid after s.1 told.1 lies.1 more)
+      omega (
+        arith,
+        one_times with_pages (owned_gap t.0) (owned_gap u.0) t.1 u.1 before mid (gap t.0 u.0 s.0.0) s.0.1 told.0 lies.0 one,
+        outlines_times E gap with_pages ts us mid after s.1 told.1 lies.1 more,
+      )
 
   -- so are values at keys
   value_times : (t : Wanted K × Option V) → total at_row (value_row t) ≤ at t.0.key
@@ -138,9 +153,15 @@ module _ {K V H : Type 0} (laws : Laws K V H) (o : IsTotalOrder laws.cmp) (local
       let up_rows = subst (λ rs. AscendIn laws.cmp (owned_gap t.0) (map (λ r. r.0) rs)) are up in
       subst (λ gs. total at_row t.1.rows + total (λ g. inside (owned_gap g)) gs ≤ inside (owned_gap t.0)) (sym is)
       (subst (λ rs. total at_row rs + (inside (owned_gap own) + 0) ≤ inside (owned_gap t.0)) (sym are)
-      (omega (arith, total-mapped at (λ r. r.0) (row ∷ rows), ascend_and_behind laws.cmp o k (owned_gap t.0) row rows up_rows, in-alike laws.cmp o k (part_behind (owned_gap t.0) (last_key row.0 rows)) (owned_gap own) same)))
+      (omega (
+        arith,
+        total-mapped at (λ r. r.0) (row ∷ rows),
+        ascend_and_behind laws.cmp o k (owned_gap t.0) row rows up_rows,
+        in-alike laws.cmp o k (part_behind (owned_gap t.0) (last_key row.0 rows)) (owned_gap own) same,
+      )))
 
-  pub parts_times : (ts : List (OwnedGap K × Part K V)) (behind : List (OwnedGap K)) → AllByRecursion (λ t. AscendIn laws.cmp (owned_gap t.0) (map (λ r. r.0) t.1.rows)) ts → AreBehind laws.cmp ts behind
+  pub parts_times : (ts : List (OwnedGap K × Part K V)) (behind : List (OwnedGap K))
+      → AllByRecursion (λ t. AscendIn laws.cmp (owned_gap t.0) (map (λ r. r.0) t.1.rows)) ts → AreBehind laws.cmp ts behind
       → total at_row (flat_map (λ t. t.1.rows) ts) + total (λ g. inside (owned_gap g)) behind ≤ total (λ g. inside (owned_gap g)) (map (λ t. t.0) ts)
   parts_times [] behind up none = subst (λ gs. 0 + total (λ g. inside (owned_gap g)) gs ≤ 0) (sym none) (omega arith)
   parts_times (t ∷ ts) behind up (first, rest, one, more, e) =

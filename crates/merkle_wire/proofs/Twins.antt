@@ -40,7 +40,8 @@ module _ {K V : Type 0} (cmp : K → K → Ordering) (o : IsTotalOrder cmp) wher
       let this : suc k ≡ k + 1 = omega arith in
       ap₂ (λ i j. row_below (get_or (r ∷ rows) i d) (get_or (r ∷ rows) j d)) next this ∙ s (k + 1) d (omega arith) (omega (arith, h))
 
-  ascend_or_not : (after : Option K) (r : K × V) (rows : List (K × V)) → IsAfter cmp after r.0 → IsSortedBy row_below (r ∷ rows) → AscendBetween cmp after None (map (λ s. s.0) (r ∷ rows)) ⊎ HaveNeighbours (r ∷ rows)
+  ascend_or_not : (after : Option K) (r : K × V) (rows : List (K × V)) → IsAfter cmp after r.0 → IsSortedBy row_below (r ∷ rows)
+      → AscendBetween cmp after None (map (λ s. s.0) (r ∷ rows)) ⊎ HaveNeighbours (r ∷ rows)
   ascend_or_not after r [] above sorted = inl (above, tt, tt)
   ascend_or_not after r (s ∷ rows) above sorted = go (λ low. ascend_or_not (Some r.0) s rows low (sorted_rest r (s ∷ rows) sorted)) (either cmp o s.0 r.0)
     where
@@ -51,7 +52,8 @@ module _ {K V : Type 0} (cmp : K → K → Ordering) (o : IsTotalOrder cmp) wher
       upto : Upto cmp r.0 s.0
       upto = sym (turned cmp o r.0 s.0) ∙ sorted 0 r (omega arith) (omega arith)
 
-      go : (Below cmp r.0 s.0 → AscendBetween cmp (Some r.0) None (map (λ t. t.0) (s ∷ rows)) ⊎ HaveNeighbours (s ∷ rows)) → Upto cmp s.0 r.0 ⊎ Below cmp r.0 s.0 → AscendBetween cmp after None (map (λ t. t.0) (r ∷ s ∷ rows)) ⊎ HaveNeighbours (r ∷ s ∷ rows)
+      go : (Below cmp r.0 s.0 → AscendBetween cmp (Some r.0) None (map (λ t. t.0) (s ∷ rows)) ⊎ HaveNeighbours (s ∷ rows)) → Upto cmp s.0 r.0 ⊎ Below cmp r.0 s.0
+          → AscendBetween cmp after None (map (λ t. t.0) (r ∷ s ∷ rows)) ⊎ HaveNeighbours (r ∷ s ∷ rows)
       go more (inr low) = rest (more low)
       go more (inl up) = inr (record { front = []; first = r; next = s; back = rows; is = refl; same = same_from cmp o r.0 s.0 upto up })
 

@@ -58,7 +58,8 @@ module _ {K : Type 0} (encoding : K → List ℕ) (is_key : K → Type 0) where
 
   -- no list of keys that are asked for
   pub no_keys : (last left : List ℕ)
-      → ((list : List (Wanted K)) (rest : List ℕ) → AllByRecursion (λ w. is_key w.key) list → left ≢ run_bytes (λ l w. key_behind l (encoding w.key)) (λ l w. encoding w.key) last list ++ rest) → NoKeys last left
+      → ((list : List (Wanted K)) (rest : List ℕ) → AllByRecursion (λ w. is_key w.key) list
+      → left ≢ run_bytes (λ l w. key_behind l (encoding w.key)) (λ l w. encoding w.key) last list ++ rest) → NoKeys last left
   no_keys last left none keys rest are e =
       none (wanted keys) rest (wanted_each keys are) (e ∙ ap (λ t. t ++ rest) (ap (keys_told encoding last) (sym (wanted_back keys)) ∙ sym (told_as_keys encoding last (wanted keys))))
 
@@ -87,11 +88,13 @@ module _ {K : Type 0} (cmp : K → K → Ordering) (o : IsTotalOrder cmp) (encod
       pub no_nodes-digests : NoDigests n (length keys) rest → NoNodes cmp is_key encoding n last gap left
       no_nodes-digests none nodes more are e =
           let both = behind_keys last keys (keys_among nodes) (flat_map (λ d. d.1) nodes) left rest more read e in
-          none (map (λ d. d.1) nodes) more (length-map nodes (λ d. d.1) ∙ sym (length-map nodes (λ d. d.0)) ∙ same_length cmp (keys_among nodes) keys both.0) (each_digest n nodes are.2) (both.1 ∙ ap (λ t. t ++ more) (flat_digests nodes))
+          none (map (λ d. d.1) nodes) more (length-map nodes (λ d. d.1) ∙ sym (length-map nodes (λ d. d.0)) ∙ same_length cmp (keys_among nodes) keys both.0)
+          (each_digest n nodes are.2) (both.1 ∙ ap (λ t. t ++ more) (flat_digests nodes))
 
   module _ (last : List ℕ) (gap : OwnedGap K) (left : List ℕ) where
     module _ (first mid : List ℕ) (read : left ≡ first ++ mid) (long : length first ≡ 16) where
-      behind_digest : (digest : List ℕ) (keys : List K) (pages : List (Option (List ℕ))) (more : List ℕ) → length digest ≡ 16 → left ≡ (digest ++ (keys_told encoding last keys ++ pages_bytes pages)) ++ more
+      behind_digest : (digest : List ℕ) (keys : List K) (pages : List (Option (List ℕ))) (more : List ℕ) → length digest ≡ 16
+          → left ≡ (digest ++ (keys_told encoding last keys ++ pages_bytes pages)) ++ more
           → mid ≡ (keys_told encoding last keys ++ pages_bytes pages) ++ more
       behind_digest digest keys pages more l e =
           let rest = keys_told encoding last keys ++ pages_bytes pages in
@@ -140,10 +143,12 @@ module _ {K V : Type 0} (cmp : K → K → Ordering) (o : IsTotalOrder cmp) (eq 
     front_key = bound_key encoding [] gap.after
 
     pub no_outline-none : length left < 1 → NoOutline cmp is_key is_value encoding values n with_pages gap left
-    no_outline-none short told more is e = omega (arith, short, ap length e, outline_some cmp eq encoding values tells tell_value front_key told, length-append (outline_bytes encoding values front_key told) more)
+    no_outline-none short told more is e = omega
+        (arith, short, ap length e, outline_some cmp eq encoding values tells tell_value front_key told, length-append (outline_bytes encoding values front_key told) more)
 
     -- what a kind of outlines can't say is not said at all
-    pub no_outline : (kind : ℕ) (mid : List ℕ) → left ≡ kind ∷ mid → (kind ≡ 0 → NoRows cmp is_key is_value encoding values front_key gap mid) → (kind ≡ 1 → NoNodes cmp is_key encoding n front_key gap mid)
+    pub no_outline : (kind : ℕ) (mid : List ℕ) → left ≡ kind ∷ mid → (kind ≡ 0 → NoRows cmp is_key is_value encoding values front_key gap mid)
+        → (kind ≡ 1 → NoNodes cmp is_key encoding n front_key gap mid)
         → (kind ≡ 2 → with_pages ≡ true → NoPage cmp is_key encoding front_key gap mid) → NoOutline cmp is_key is_value encoding values n with_pages gap left
     no_outline kind mid read rows nodes page (rows_told rs) more is e =
         let both = first_byte kind 0 mid (rows_bytes front_key rs ++ more) (sym read ∙ e) in rows both.0 rs more is both.1
@@ -185,7 +190,8 @@ module _ {K V : Type 0} (cmp : K → K → Ordering) (o : IsTotalOrder cmp) (eq 
 -- what was read and what could be said of the same end at one place
 module _ {K V : Type 0} (cmp : K → K → Ordering) (eq : V → V → Bool) (encoding : K → List ℕ) (values : V → List ℕ) (tells : (x y : K) → encoding x ≡ encoding y → Same cmp x y)
     (tell_value : (x y : V) (r s : List ℕ) → values x ++ r ≡ values y ++ s → (eq x y ≡ true) × (r ≡ s)) where
-  pub outlines_end : (is_key : K → Type 0) (is_value : V → Type 0) (n : ℕ) (with_pages : Bool) (gap : OwnedGap K) (y z : Outline K V) (r s : List ℕ) → Fits n y → IsOutlineIn cmp is_key is_value n with_pages (owned_gap gap) z
+  pub outlines_end : (is_key : K → Type 0) (is_value : V → Type 0) (n : ℕ) (with_pages : Bool) (gap : OwnedGap K) (y z : Outline K V) (r s : List ℕ) → Fits n y
+      → IsOutlineIn cmp is_key is_value n with_pages (owned_gap gap) z
       → outline_bytes encoding values (bound_key encoding [] gap.after) y ++ r ≡ outline_bytes encoding values (bound_key encoding [] gap.after) z ++ s → r ≡ s
   outlines_end is_key is_value n with_pages gap y z r s f is e = (outline_tells cmp eq encoding values tells tell_value n (bound_key encoding [] gap.after) y z r s f (fits z is) e).1
     where
@@ -194,7 +200,8 @@ module _ {K V : Type 0} (cmp : K → K → Ordering) (eq : V → V → Bool) (en
       fits (digests_told nodes) is = is.2
       fits (page_told digest keys pages) is = (is.1.3, omega (arith, is.1.4), is.1.5)
 
-  pub parts_end : (gap : OwnedGap K) (y z : Part K V) (r s : List ℕ) → part_bytes encoding values (bound_key encoding [] gap.after) y ++ r ≡ part_bytes encoding values (bound_key encoding [] gap.after) z ++ s → r ≡ s
+  pub parts_end : (gap : OwnedGap K) (y z : Part K V) (r s : List ℕ) → part_bytes encoding values (bound_key encoding [] gap.after) y ++ r ≡ part_bytes encoding values
+      (bound_key encoding [] gap.after) z ++ s → r ≡ s
   parts_end gap y z r s e = (part_tells cmp eq encoding values tells tell_value (bound_key encoding [] gap.after) y z r s e).1
 
 -- the digest of a page begins with a flag
@@ -203,12 +210,14 @@ no_page_digest left none None rest is e = none false rest e
 no_page_digest left none (Some d) rest is e = none true (d ++ rest) e
 
 -- this many digests, one more than were read
-pub no_digests : (n count : ℕ) (left rest : List ℕ) (ds : List (List ℕ)) → left ≡ flat_map (λ d. d) ds ++ rest → AllByRecursion (λ d. length d ≡ n) ds → length ds < count → length rest < n → NoDigests n count left
+pub no_digests : (n count : ℕ) (left rest : List ℕ) (ds : List (List ℕ)) → left ≡ flat_map (λ d. d) ds ++ rest → AllByRecursion (λ d. length d ≡ n) ds → length ds < count
+    → length rest < n → NoDigests n count left
 no_digests n count left rest ds read are few short others more many long e =
     let behind = digests_begin n ds others rest more are long (omega (arith, few, many)) (sym read ∙ e) in omega (arith, short, behind)
 
 -- this many digests of pages
-pub no_pages : (count : ℕ) (left rest : List ℕ) (ps : List (Option (List ℕ))) → left ≡ pages_bytes ps ++ rest → AllByRecursion IsPageDigest ps → length ps < count → NoPageDigest rest → NoPageDigests count left
+pub no_pages : (count : ℕ) (left rest : List ℕ) (ps : List (Option (List ℕ))) → left ≡ pages_bytes ps ++ rest → AllByRecursion IsPageDigest ps → length ps < count
+    → NoPageDigest rest → NoPageDigests count left
 no_pages count left rest ps read are few none others more many long e =
     let (page, behind, is, f) = pages_begin ps others rest more are long (omega (arith, few, many)) (sym read ∙ e) in none page behind is f
 
@@ -219,7 +228,8 @@ no_root-digest count left rest read none all (number, digest, few, is, said) e =
     none digest [] is ((count_told count number rest page (sym read ∙ e ∙ said)).1 ∙ sym (append-nil page))
 
 -- or more stands after that
-pub no_root-end : (count : ℕ) (digest : Option (List ℕ)) (left middle rest : List ℕ) → left ≡ count_bytes count ++ middle → middle ≡ option_bytes (λ d. d) digest ++ rest → IsPageDigest digest → rest ≢ []
+pub no_root-end : (count : ℕ) (digest : Option (List ℕ)) (left middle rest : List ℕ) → left ≡ count_bytes count ++ middle → middle ≡ option_bytes (λ d. d) digest ++ rest
+    → IsPageDigest digest → rest ≢ []
     → (all : List ℕ) → SaysRoot all → left ≢ all
 no_root-end count digest left middle rest read then is more all (number, other, few, of, said) e =
     let page = option_bytes (λ d. d) other in

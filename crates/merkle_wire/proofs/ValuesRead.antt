@@ -11,7 +11,8 @@ module _ {K V : Type 0} where
   pub values_more : (values : V → List ℕ) (told : List (Wanted K × Option V)) (one : Wanted K × Option V) (old new : List ℕ) → old ≡ option_bytes values one.1 ++ new
       → values_bytes values told ++ old ≡ values_bytes values (told ++ one ∷ []) ++ new
   values_more values told one old new e =
-      ap (λ t. values_bytes values told ++ t) (e ∙ ap (λ t. t ++ new) (sym (append-nil (option_bytes values one.1)))) ∙ sym (append_assoc (values_bytes values told) (option_bytes values one.1 ++ []) new)
+      ap (λ t. values_bytes values told ++ t) (e ∙ ap (λ t. t ++ new) (sym (append-nil (option_bytes values one.1))))
+      ∙ sym (append_assoc (values_bytes values told) (option_bytes values one.1 ++ []) new)
       ∙ ap (λ t. t ++ new) (sym (flat_map-append (λ (t : Wanted K × Option V). option_bytes values t.1) told (one ∷ [])))
 
   pub rows_of_more : (told : List (Wanted K × Option V)) (one : Wanted K × Option V) → flat_map value_row told ++ value_row one ≡ flat_map value_row (told ++ one ∷ [])

@@ -23,10 +23,14 @@ use Rattle.merkle_wire.proofs.Exchanges.{Tell}
 use Rattle.merkle_wire.proofs.Fitting.{found_each}
 use Rattle.merkle_wire.proofs.NextCovers.{begun_covers, exchanged}
 
-module _ {K V H : Type 0} (laws : Laws K V H) (o : IsTotalOrder laws.cmp) (eqv : IsEquivalence laws.eq) (respects : (h : H) (a b : V) → laws.eq a b ≡ true → laws.value_digest h a ≡ laws.value_digest h b)
-    (one_tree : (hasher : H) (base : ℕ) (a b : List (K × List ℕ)) (t u : Tree K (List ℕ)) → SameMap laws.cmp (λ d e. d ≡ e) a b → IsTreeOf laws.cmp (laws.key_digest hasher) base t a → IsTreeOf laws.cmp (laws.key_digest hasher) base u b → SamePages laws.cmp t u)
-    (encoding : K → List ℕ) (values : V → List ℕ) (tell : Tell laws encoding values) (n : ℕ) (local peer : Side K V H) (up : IsMap laws.cmp local.rows) (up_peer : IsMap laws.cmp peer.rows) (small : HasSmallMap laws n peer) where
-  one_covers : (before : Underway K V) (next : Next K V) (root : Tree K (List ℕ)) → IsTreeOf laws.cmp (laws.key_digest peer.hasher) peer.base root (tree_map laws peer) → IsExchange laws n encoding values local peer before next
+module _ {K V H : Type 0} (laws : Laws K V H) (o : IsTotalOrder laws.cmp) (eqv : IsEquivalence laws.eq)
+    (respects : (h : H) (a b : V) → laws.eq a b ≡ true → laws.value_digest h a ≡ laws.value_digest h b)
+    (one_tree : (hasher : H) (base : ℕ) (a b : List (K × List ℕ)) (t u : Tree K (List ℕ)) → SameMap laws.cmp (λ d e. d ≡ e) a b
+    → IsTreeOf laws.cmp (laws.key_digest hasher) base t a → IsTreeOf laws.cmp (laws.key_digest hasher) base u b → SamePages laws.cmp t u)
+    (encoding : K → List ℕ) (values : V → List ℕ) (tell : Tell laws encoding values) (n : ℕ) (local peer : Side K V H) (up : IsMap laws.cmp local.rows)
+    (up_peer : IsMap laws.cmp peer.rows) (small : HasSmallMap laws n peer) where
+  one_covers : (before : Underway K V) (next : Next K V) (root : Tree K (List ℕ)) → IsTreeOf laws.cmp (laws.key_digest peer.hasher) peer.base root (tree_map laws peer)
+      → IsExchange laws n encoding values local peer before next
       → Covers laws local peer root before → CoversNext laws local peer root encoding next
   one_covers before next root of_peer e covers =
       let a = e.answer in
@@ -37,13 +41,15 @@ module _ {K V H : Type 0} (laws : Laws K V H) (o : IsTotalOrder laws.cmp) (eqv :
       exchanged laws o eqv respects one_tree encoding values tell n local up (contents_of peer root) now refl a.settings kept tree.0 (subst (HasSmallMap laws n) same small)
       (laws.key_digest a.tree.hasher) before a.question a.message e.reply next a.asks a.reads a.answers e.takes root of_peer covers
 
-  chain_brings : (before : Underway K V) (more : List (Underway K V)) (rows : List (K × V)) (root : Tree K (List ℕ)) → IsTreeOf laws.cmp (laws.key_digest peer.hasher) peer.base root (tree_map laws peer) → AreExchanges laws n encoding values local peer before more rows
+  chain_brings : (before : Underway K V) (more : List (Underway K V)) (rows : List (K × V)) (root : Tree K (List ℕ))
+      → IsTreeOf laws.cmp (laws.key_digest peer.hasher) peer.base root (tree_map laws peer) → AreExchanges laws n encoding values local peer before more rows
       → Covers laws local peer root before → AreBrought laws local peer rows
   chain_brings before [] rows root of_peer (came, e, is) covers = subst (AreBrought laws local peer) (sym is) (one_covers before (Came came) root of_peer e covers)
   chain_brings before (next ∷ more) rows root of_peer (message, e, others) covers = chain_brings next more rows root of_peer others (one_covers before (Ask next message) root of_peer e covers).1
 
   -- a tree of the peer's map, by which it answers first
-  first_tree : (before : Underway K V) (more : List (Underway K V)) (rows : List (K × V)) → AreExchanges laws n encoding values local peer before more rows → (root : Tree K (List ℕ)) × IsTreeOf laws.cmp (laws.key_digest peer.hasher) peer.base root (tree_map laws peer)
+  first_tree : (before : Underway K V) (more : List (Underway K V)) (rows : List (K × V)) → AreExchanges laws n encoding values local peer before more rows
+      → (root : Tree K (List ℕ)) × IsTreeOf laws.cmp (laws.key_digest peer.hasher) peer.base root (tree_map laws peer)
   first_tree before [] rows (came, e, is) = (e.answer.tree.root, e.answer.of_peer)
   first_tree before (next ∷ more) rows (message, e, others) = (e.answer.tree.root, e.answer.of_peer)
 
@@ -53,7 +59,8 @@ module _ {K V H : Type 0} (laws : Laws K V H) (o : IsTotalOrder laws.cmp) (eqv :
       chain_brings s.begun s.more rows root of_peer s.exchanges (begun_covers laws encoding local peer root s.begun s.settings s.asks_root s.nothing_found)
 
 -- digests of n bytes each, one after the other, tell as many digests
-digests_tell : (n : ℕ) (ds es : List (List ℕ)) → AllByRecursion (λ d. length d ≡ n) ds → AllByRecursion (λ d. length d ≡ n) es → length ds ≡ length es → flat_map (λ d. d) ds ≡ flat_map (λ e. e) es → ds ≡ es
+digests_tell : (n : ℕ) (ds es : List (List ℕ)) → AllByRecursion (λ d. length d ≡ n) ds → AllByRecursion (λ d. length d ≡ n) es → length ds ≡ length es
+    → flat_map (λ d. d) ds ≡ flat_map (λ e. e) es → ds ≡ es
 digests_tell n [] [] a b c e = refl
 digests_tell n [] (y ∷ es) a b c e = absurd (omega (arith, c))
 digests_tell n (x ∷ ds) [] a b c e = absurd (omega (arith, c))
@@ -75,7 +82,8 @@ each_node P (high h) a = tt
 each_node P (node h k d r) a = let (here, rest) = each-behind (λ p. P p.1) (held_pairs h) ((k, d) ∷ row_pairs r) a in (here, each_node P r rest)
 
 module _ {K V H : Type 0} (laws : Laws K V H) (o : IsTotalOrder laws.cmp) (n : ℕ) where
-  lengths : (s : Side K V H) → HasSmallMap laws n s → (nodes : List (Node K (List ℕ))) (ds : List (List ℕ)) → map (λ m. get laws.cmp (tree_map laws s) m.key) nodes ≡ map Some ds → AllByRecursion (λ d. length d ≡ n) ds
+  lengths : (s : Side K V H) → HasSmallMap laws n s → (nodes : List (Node K (List ℕ))) (ds : List (List ℕ))
+      → map (λ m. get laws.cmp (tree_map laws s) m.key) nodes ≡ map Some ds → AllByRecursion (λ d. length d ≡ n) ds
   lengths s small nodes [] e = tt
   lengths s small [] (d ∷ ds) e = absurd (cc)
   lengths s small (m ∷ ms) (d ∷ ds) e =
@@ -84,7 +92,8 @@ module _ {K V H : Type 0} (laws : Laws K V H) (o : IsTotalOrder laws.cmp) (n : �
       (found_each laws.cmp o (λ x. length x ≡ n) (tree_map laws s) m.key d small.digests here, lengths s small ms ds rest)
 
   -- the digests of the nodes of a page have n bytes
-  page_lengths : (s : Side K V H) → HasSmallMap laws n s → (p : Tree K (List ℕ)) → IsPageOf laws.cmp (laws.key_digest s.hasher) s.base p (tree_map laws s) → AllByRecursion (λ d. length d ≡ n) (map (λ m. m.digest) (nodes_of p))
+  page_lengths : (s : Side K V H) → HasSmallMap laws n s → (p : Tree K (List ℕ)) → IsPageOf laws.cmp (laws.key_digest s.hasher) s.base p (tree_map laws s)
+      → AllByRecursion (λ d. length d ≡ n) (map (λ m. m.digest) (nodes_of p))
   page_lengths s small (page l c r) (t, is_tree, in_t) =
       each_node (λ d. length d ≡ n) r (inside (pairs_down (λ p. length p.1 ≡ n)) (page l c r) t (each_of laws.cmp (λ d. length d ≡ n) (pairs t) (tree_map laws s) is_tree.1 small.digests) in_t)
 

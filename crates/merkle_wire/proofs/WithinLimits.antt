@@ -19,12 +19,14 @@ use Rattle.merkle_wire.specs.declared.session_error.SessionError.{SessionError}
 use Rattle.merkle_wire.specs.declared.session_error.SessionError.TheVariants.{Limit, Malformed, Memory, NoNode, NotInGap, NothingCame, OtherKind, Refused, TooManyRounds, Twice}
 use Rattle.merkle_wire.proofs.AskedFor.{asked_of_keeps}
 
-module _ {K V H : Type 0} (laws : Laws K V H) (n : ℕ) (encoding : K → List ℕ) (values : V → List ℕ) (is_key : K → Type 0) (is_value : V → Type 0) (local : Side K V H) (before : Underway K V) (reply : List ℕ) where
+module _ {K V H : Type 0} (laws : Laws K V H) (n : ℕ) (encoding : K → List ℕ) (values : V → List ℕ) (is_key : K → Type 0) (is_value : V → Type 0) (local : Side K V H)
+    (before : Underway K V) (reply : List ℕ) where
   abbrev Stopped : SessionError → Type 0
   Stopped = IsStopped laws n encoding values is_key is_value local before reply
 
   -- rows that are too many stop it
-  rows_stop : (found : Found K V) (again : Option (Question K)) (error : SessionError) → HasTaken laws n encoding values local before.asked reply before.found found again → IsOverRows (length found.rows) before.left error → Stopped error
+  rows_stop : (found : Found K V) (again : Option (Question K)) (error : SessionError) → HasTaken laws n encoding values local before.asked reply before.found found again
+      → IsOverRows (length found.rows) before.left error → Stopped error
   rows_stop found again (Limit limit.Rows) taken over = (found, again, taken, over)
   rows_stop found again (Limit limit.Replies) taken over = absurd over
   rows_stop found again (Limit limit.Bytes) taken over = absurd over
@@ -55,8 +57,10 @@ module _ {K V H : Type 0} (laws : Laws K V H) (n : ℕ) (encoding : K → List �
 
 module _ {K V H : Type 0} (laws : Laws K V H) (n : ℕ) (encoding : K → List ℕ) (values : V → List ℕ) (is_key : K → Type 0) (is_value : V → Type 0) where
   -- rows that are too many, by what is left of the limits after the reply, stop the side that is the same
-  pub over_stops : (local was : Side K V H) (before inside : Underway K V) (reply : List ℕ) (found : Found K V) (again : Option (Question K)) (left : Limits) (rows : ℕ) (error : SessionError) → was ≡ local → inside ≡ before
-      → HasTaken laws n encoding values was inside.asked reply inside.found found again → left.rows ≡ inside.left.rows → rows ≡ length found.rows → IsOverRows rows left error → IsStopped laws n encoding values is_key is_value local before reply error
+  pub over_stops : (local was : Side K V H) (before inside : Underway K V) (reply : List ℕ) (found : Found K V) (again : Option (Question K)) (left : Limits) (rows : ℕ)
+      (error : SessionError) → was ≡ local → inside ≡ before
+      → HasTaken laws n encoding values was inside.asked reply inside.found found again → left.rows ≡ inside.left.rows → rows ≡ length found.rows
+      → IsOverRows rows left error → IsStopped laws n encoding values is_key is_value local before reply error
   over_stops local was before inside reply found again left rows error l s taken same count over =
       subst (λ u. IsStopped laws n encoding values is_key is_value local u reply error) s
       (subst (λ t. IsStopped laws n encoding values is_key is_value t inside reply error) l
@@ -85,7 +89,8 @@ module _ {K V : Type 0} where
       has ∙ (λ i. record { replies = of_none.replies i; rows = of_none.rows i; bytes = of_none.bytes i })
 
   -- what is asked for is no row more
-  pub asked_allowed : (limit : Option ℕ) (question : Question K) (before after : Found K V) → IsAskedOf (Some question) before after → Allows limit (length before.rows) → Allows limit (length after.rows)
+  pub asked_allowed : (limit : Option ℕ) (question : Question K) (before after : Found K V) → IsAskedOf (Some question) before after → Allows limit (length before.rows)
+      → Allows limit (length after.rows)
   asked_allowed limit question before after asked allowed = subst (λ rows. Allows limit (length rows)) (sym (asked_of_keeps question before after asked)) allowed
 
   -- the rows that come are those that were found

@@ -9,7 +9,8 @@ use Rattle.merkle_wire.specs.declared.wanted.Wanted.{Wanted}
 
 module _ {K : Type 0} (encoding : K → List ℕ) where
   entries_as_keys : (last : List ℕ) (ws : List (Wanted K))
-      → entries_bytes (λ last w. key_behind last (encoding w.key)) (λ last w. encoding w.key) last ws ≡ entries_bytes (λ last k. key_behind last (encoding k)) (λ last k. encoding k) last (map (λ w. w.key) ws)
+      → entries_bytes (λ last w. key_behind last (encoding w.key)) (λ last w. encoding w.key) last ws ≡ entries_bytes (λ last k. key_behind last (encoding k))
+      (λ last k. encoding k) last (map (λ w. w.key) ws)
   entries_as_keys last [] = refl
   entries_as_keys last (w ∷ ws) = ap (λ t. key_behind last (encoding w.key) ++ t) (entries_as_keys (encoding w.key) ws)
 

@@ -102,7 +102,8 @@ module _ {K V H : Type 0} (laws : Laws K V H) (n : ℕ) (encoding : K → List �
   keys_told before next e = keys_taken laws n encoding values local before.asked e.reply before.found e.takes.0 e.takes.1 e.takes.2
 
   -- how many of something exchanges told, one after the other
-  abbrev pub told_in : ((before : Underway K V) (next : Next K V) → IsExchange laws n encoding values local peer before next → ℕ) → (before : Underway K V) (more : List (Underway K V)) (last : Underway K V)
+  abbrev pub told_in : ((before : Underway K V) (next : Next K V) → IsExchange laws n encoding values local peer before next → ℕ)
+      → (before : Underway K V) (more : List (Underway K V)) (last : Underway K V)
       → AreExchangesTo laws n encoding values local peer before more last → ℕ
   told_in told before [] last is = 0
   told_in told before (next ∷ more) last (message, e, others) = told before (Ask next message) e + told_in told next more last others

@@ -8,7 +8,7 @@ use Rattle.merkle_wire.specs.Limits.{limit_text}
 use Rattle.merkle_wire.specs.declared.answering.AnswerError.{AnswerError}
 use Rattle.merkle_wire.specs.declared.answering.AnswerError.TheVariants as answer
 use Rattle.merkle_wire.specs.declared.answering.KeptError.{KeptError}
-use Rattle.merkle_wire.specs.declared.answering.KeptError.TheVariants.{Answer, Rows}
+use Rattle.merkle_wire.specs.declared.answering.KeptError.TheVariants.{Answer, Kept}
 use Rattle.merkle_wire.specs.declared.session.BothMessagesError.{BothMessagesError}
 use Rattle.merkle_wire.specs.declared.session.BothMessagesError.TheVariants.{First, Second}
 use Rattle.merkle_wire.specs.declared.session.MessagesError.{MessagesError}
@@ -40,10 +40,10 @@ IsOfOthers answer.Memory = ⊥
 IsOfOthers (answer.Malformed error) = ⊥
 IsOfOthers answer.OtherSettings = ⊤
 
--- this holds of an error of the message; of one of the rows nothing is said
+-- this holds of an error of the message; of one of the tree or the rows nothing is said
 abbrev pub OfMessage : {E : Type 0} → (AnswerError → Type 0) → KeptError E → Type 0
 OfMessage Holds (Answer error) = Holds error
-OfMessage Holds (Rows error) = ⊤
+OfMessage Holds (Kept error) = ⊤
 
 -- this holds of an error for which a catch-up of a replica ends; of one of the tree nothing is said
 abbrev pub OfSession : {E : Type 0} → (SessionError → Type 0) → TakeError E → Type 0

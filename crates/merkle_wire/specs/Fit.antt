@@ -32,8 +32,8 @@ module _ {K : Type 0} (cmp : K → K → Ordering) (is_key : K → Type 0) where
   AreNodesIn n gap nodes = AscendIn cmp gap (map (λ d. d.0) nodes) × AllByRecursion (λ d. is_key d.0) nodes × AllByRecursion (λ d. length d.1 ≡ n) nodes
 
   -- a page: its keys ascend in the gap, of which there is one, with a page or none before each of them and after the last
-  abbrev pub IsPageIn : Gap K → List ℕ → List K → List (Option (List ℕ)) → Type 0
-  IsPageIn gap digest keys pages = (keys ≢ []) × AscendIn cmp gap keys × AllByRecursion is_key keys
+  abbrev pub IsPageTold : Gap K → List ℕ → List K → List (Option (List ℕ)) → Type 0
+  IsPageTold gap digest keys pages = (keys ≢ []) × AscendIn cmp gap keys × AllByRecursion is_key keys
       × (length digest ≡ 16) × (length pages ≡ length keys + 1) × AllByRecursion IsPageDigest pages
 
 module _ {K V : Type 0} (cmp : K → K → Ordering) (is_key : K → Type 0) (is_value : V → Type 0) where
@@ -49,7 +49,7 @@ module _ {K V : Type 0} (cmp : K → K → Ordering) (is_key : K → Type 0) (is
   abbrev pub IsOutlineIn : ℕ → Bool → Gap K → Outline K V → Type 0
   IsOutlineIn n with_pages gap (rows_told rows) = AreRowsIn gap rows
   IsOutlineIn n with_pages gap (digests_told nodes) = AreNodesIn cmp is_key n gap nodes
-  IsOutlineIn n with_pages gap (page_told digest keys pages) = (with_pages ≡ true) × IsPageIn cmp is_key gap digest keys pages
+  IsOutlineIn n with_pages gap (page_told digest keys pages) = (with_pages ≡ true) × IsPageTold cmp is_key gap digest keys pages
 
 -- the number of rows, and the digest of the root page, or none
 abbrev pub SaysRoot : List ℕ → Type 0

@@ -43,7 +43,8 @@ module _ {K : Type 0} (encoding : K → List ℕ) (eq : K → K → Bool)
   gap_told last a b r s e =
       let behind = bound_key encoding last in
       let firsts = bound_told encoding eq told last a.after b.after (bound_behind encoding (behind a.after) a.before ++ r) (bound_behind encoding (behind b.after) b.before ++ s)
-      (sym (append_assoc (bound_behind encoding last a.after) (bound_behind encoding (behind a.after) a.before) r) ∙ e ∙ append_assoc (bound_behind encoding last b.after) (bound_behind encoding (behind b.after) b.before) s) in
+      (sym (append_assoc (bound_behind encoding last a.after) (bound_behind encoding (behind a.after) a.before) r) ∙ e
+      ∙ append_assoc (bound_behind encoding last b.after) (bound_behind encoding (behind b.after) b.before) s) in
       let seconds = bound_told encoding eq told (behind a.after) a.before b.before r s
       (firsts.2 ∙ ap (λ k. bound_behind encoding k b.before ++ s) (sym firsts.1)) in
       (ap₂ (λ x y. x && y) firsts.0 seconds.0, seconds.1 ∙ ap (λ k. bound_key encoding k b.before) firsts.1, seconds.2)

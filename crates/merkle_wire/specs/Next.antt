@@ -7,7 +7,7 @@ use Rattle.key_order.specs.Map.{IsMap}
 use Rattle.key_order.specs.Order.{Same}
 use Rattle.merkle_replica.specs.Contents.{Contents, Side, side}
 use Rattle.merkle_replica.specs.Laws.{Laws}
-use Rattle.merkle_wire.specs.Asking.{IsAskedOf, IsDone}
+use Rattle.merkle_wire.specs.Asking.{IsAskedOf, IsAtEnd}
 use Rattle.merkle_wire.specs.Coming.{IsAskedFor}
 use Rattle.merkle_wire.specs.Fit.{IsFit}
 use Rattle.merkle_wire.specs.Found.{Found}
@@ -48,7 +48,7 @@ module _ {K V : Type 0} (cmp : K → K → Ordering) where
   abbrev pub IsEnded : ℕ → Found K V → SessionError → Type 0
   IsEnded rounds found Memory = ⊤
   IsEnded rounds found TooManyRounds = (rounds ≡ 256) × (found.below ≢ [])
-  IsEnded rounds found Twice = IsDone found × HaveTwins found.rows
+  IsEnded rounds found Twice = IsAtEnd found × HaveTwins found.rows
   IsEnded rounds found _ = ⊥
 
 -- a catch-up that asks on has asked in 256 rounds at most
@@ -75,7 +75,7 @@ module _ {K V : Type 0} (cmp : K → K → Ordering) (encoding : K → List ℕ)
   GoesOn rounds found (Ask session message) =
       IsAskedOf (Some session.asked) found session.found × (message.items ≡ question_bytes encoding session.asked)
       × (session.rounds ≡ rounds_with rounds session.asked)
-  GoesOn rounds found (Came rows) = IsDone found × IsCame cmp found.rows (Came rows)
+  GoesOn rounds found (Came rows) = IsAtEnd found × IsCame cmp found.rows (Came rows)
 
   -- what is left of the question is asked again, or the catch-up goes on
   abbrev pub AsksOrGoesOn : Option (Question K) → ℕ → Found K V → Next K V → Type 0
@@ -99,7 +99,7 @@ module _ {K V H : Type 0} (laws : Laws K V H) (n : ℕ) (encoding : K → List �
   IsStopped is_key is_value local before reply TooManyRounds = (before.rounds ≡ 256) × (found : Found K V)
       × HasTaken laws n encoding values local before.asked reply before.found found None × (found.below ≢ [])
   IsStopped is_key is_value local before reply Twice = (found : Found K V) × HasTaken laws n encoding values local before.asked reply before.found found None
-      × IsDone found × HaveTwins laws.cmp found.rows
+      × IsAtEnd found × HaveTwins laws.cmp found.rows
   IsStopped is_key is_value local before reply (Limit limit.Rows) = (found : Found K V) × (again : Option (Question K))
       × HasTaken laws n encoding values local before.asked reply before.found found again × IsAbove (length found.rows) before.left.rows
   IsStopped is_key is_value local before reply (Limit limit) = IsOverLimit (length reply) before.left (Limit limit)

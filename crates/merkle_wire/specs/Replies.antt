@@ -26,7 +26,7 @@ use Rattle.merkle_wire.specs.declared.question.Question.TheVariants.{Root, Outli
 use Rattle.merkle_wire.specs.declared.wanted.Wanted.{Wanted}
 
 -- something is told of the first of what was asked for, of one at least, each where P holds of both
-pub record Answers {X Y : Type 0} (P : X → Y → Type 0) (asked : List X) (told : List (X × Y)) : Type 0 where
+pub record TellsFirst {X Y : Type 0} (P : X → Y → Type 0) (asked : List X) (told : List (X × Y)) : Type 0 where
   pub left : List X
   pub begins : asked ≡ map (λ t. t.0) told ++ left
   pub some : asked ≢ [] → told ≢ []
@@ -38,8 +38,8 @@ EachFits bytes Fits begun [] = ⊤
 EachFits bytes Fits begun (t ∷ ts) = Fits begun t × EachFits bytes Fits (begun ++ bytes t) ts
 
 -- after these bytes of a reply there is room for an entry: they are fewer than this many, or the two of the front
-abbrev pub HasRoom : ℕ → List ℕ → Type 0
-HasRoom most bytes = length bytes < max most 3
+abbrev pub IsNotFull : ℕ → List ℕ → Type 0
+IsNotFull most bytes = length bytes < max most 3
 
 -- after these there is none
 abbrev pub IsFull : ℕ → List ℕ → Type 0
@@ -104,16 +104,16 @@ values_bytes values = flat_map (value_at_bytes values)
 
 -- a reply that begins so tells the values at all keys, or at the first up to that by which it has this many bytes
 abbrev pub ValuesFit : {K V : Type 0} → (V → List ℕ) → ℕ → List (Wanted K) → List ℕ → List ℕ → Type 0
-ValuesFit values most = TellsWhatFits (value_at_bytes values) (λ bytes t. HasRoom most bytes) most
+ValuesFit values most = TellsWhatFits (value_at_bytes values) (λ bytes t. IsNotFull most bytes) most
 
 module _ {K V : Type 0} (encoding : K → List ℕ) (values : V → List ℕ) where
   -- it tells the outlines over all gaps, or over the first up to that by which it has this many bytes
   abbrev pub OutlinesFit : ℕ → List (OwnedGap K) → List ℕ → List ℕ → Type 0
-  OutlinesFit most = TellsWhatFits (outline_over_bytes encoding values) (λ bytes t. HasRoom most bytes) most
+  OutlinesFit most = TellsWhatFits (outline_over_bytes encoding values) (λ bytes t. IsNotFull most bytes) most
 
   -- it tells the rows in all gaps, or in the first, and of the rows in a gap all, or the first, up to that by which it has this many bytes
   abbrev pub PartsFit : ℕ → List (OwnedGap K) → List ℕ → List ℕ → Type 0
-  PartsFit most = TellsWhatFits (part_in_bytes encoding values) (λ bytes t. HasRoom most bytes × RowsFit encoding values most bytes t) most
+  PartsFit most = TellsWhatFits (part_in_bytes encoding values) (λ bytes t. IsNotFull most bytes × RowsFit encoding values most bytes t) most
 
   -- the reply to a question tells all that it asks for, or the first of it up to that by which it has this many bytes
   abbrev pub EndsWithin : ℕ → Question K → List ℕ → Type 0
@@ -154,12 +154,12 @@ module _ {K V H : Type 0} (cmp : K → K → Ordering) (bytes_of encoding : K �
   -- told of the pages over the gaps; the values at the keys; or the rows in the gaps
   abbrev pub IsReply : Question K → List ℕ → Type 0
   IsReply (Root settings) reply = AreSettingsOf digest_of n tree settings × (reply ≡ root_bytes bytes_of rows tree)
-  IsReply (Outlines most gaps) reply = (told : List (OwnedGap K × Outline K V)) × Answers (λ g. IsTold cmp rows true (items_over cmp bytes_of tree g)) gaps.items told
+  IsReply (Outlines most gaps) reply = (told : List (OwnedGap K × Outline K V)) × TellsFirst (λ g. IsTold cmp rows true (items_over cmp bytes_of tree g)) gaps.items told
       × (reply ≡ front outlines_kind ++ outlines_bytes encoding values told)
-  IsReply (Nodes most gaps) reply = (told : List (OwnedGap K × Outline K V)) × Answers (λ g. IsTold cmp rows false (items_over cmp bytes_of tree g)) gaps.items told
+  IsReply (Nodes most gaps) reply = (told : List (OwnedGap K × Outline K V)) × TellsFirst (λ g. IsTold cmp rows false (items_over cmp bytes_of tree g)) gaps.items told
       × (reply ≡ front nodes_kind ++ outlines_bytes encoding values told)
-  IsReply (RowsAt keys) reply = (told : List (Wanted K × Option V)) × Answers (λ w value. value ≡ get cmp rows w.key) keys.items told × (reply ≡ front rows_at_kind ++ values_bytes values told)
-  IsReply (RowsIn gaps) reply = (told : List (OwnedGap K × Part K V)) × Answers (IsPartOf cmp rows) gaps.items told × (reply ≡ front rows_in_kind ++ parts_bytes encoding values told)
+  IsReply (RowsAt keys) reply = (told : List (Wanted K × Option V)) × TellsFirst (λ w value. value ≡ get cmp rows w.key) keys.items told × (reply ≡ front rows_at_kind ++ values_bytes values told)
+  IsReply (RowsIn gaps) reply = (told : List (OwnedGap K × Part K V)) × TellsFirst (IsPartOf cmp rows) gaps.items told × (reply ≡ front rows_in_kind ++ parts_bytes encoding values told)
 
 module _ {K V H : Type 0} (laws : Laws K V H) (n : ℕ) (encoding : K → List ℕ) (values : V → List ℕ) where
   -- the reply to a question of a replica with these rows and this tree, whose digests of values have n bytes

@@ -114,7 +114,8 @@ module _ {K V H : Type 0} (laws : Laws K V H) (local peer : Side K V H) where
   abbrev pub IsMessagesRefused : MessagesError → List (K × V) → Type 0
   IsMessagesRefused (Answer error) after = (after ≡ local.rows) × HasNoReply error
   IsMessagesRefused (Session error) after = after ≡ local.rows
-  IsMessagesRefused (Join done) after = (rows : List (K × V)) × AreBrought rows × (done < length rows) × IsJoin laws.cmp laws.eq laws.join local.rows (take done rows) after × (done ≡ 0 → after ≡ local.rows)
+  IsMessagesRefused (Join done) after = (rows : List (K × V)) × AreBrought rows × (done < length rows)
+      × IsJoin laws.cmp laws.eq laws.join local.rows (take done rows) after × (done ≡ 0 → after ≡ local.rows)
 
 module _ {K V H : Type 0} (laws : Laws K V H) (replica peer : Contents K V H) where
   -- such rows of the peer came to the replica
@@ -188,7 +189,7 @@ module _ {K V H : Type 0} (laws : Laws K V H) (local peer : Side K V H) (root : 
 module _ {K V H : Type 0} (laws : Laws K V H) (n : ℕ) (encoding : K → List ℕ) (values : V → List ℕ) (local peer : Side K V H) where
   -- the peer's reply to a catch-up, as `answer` says of it: the message asks what the catch-up asks, and the peer read a question of it and answered
   -- that by a tree of its map
-  pub record IsAnswer (before : Underway K V) (reply : List ℕ) : Type 0 where
+  pub record IsPeerReply (before : Underway K V) (reply : List ℕ) : Type 0 where
     pub message : List ℕ
     pub question : Question K
     pub tree : State K H
@@ -201,7 +202,7 @@ module _ {K V H : Type 0} (laws : Laws K V H) (n : ℕ) (encoding : K → List �
   -- one exchange of messages: a reply was taken, as `CatchingUp::take` says of it, after which this came next
   pub record IsExchange (before : Underway K V) (next : Next K V) : Type 0 where
     pub reply : List ℕ
-    pub answer : IsAnswer before reply
+    pub answer : IsPeerReply before reply
     pub takes : IsNext laws n encoding values local before reply next
 
   -- exchanges, one after the other, after the last of which the rows came

@@ -20,7 +20,7 @@ use Rattle.merkle_wire.specs.Gaps.{HasKeyBounds, owned_gap}
 use Rattle.merkle_wire.specs.Next.{IsStopped}
 use Rattle.merkle_wire.specs.Outlines.{nodes_among, keys_among}
 use Rattle.merkle_wire.specs.Questions.{IsQuestion}
-use Rattle.merkle_wire.specs.Sessions.{IsAnswer, IsExchange}
+use Rattle.merkle_wire.specs.Sessions.{IsPeerReply, IsExchange}
 use Rattle.merkle_wire.specs.Underway.{Underway}
 use Rattle.merkle_wire.specs.declared.answering.AnswerError.TheVariants as answer
 use Rattle.merkle_wire.specs.declared.catching_up.Next.{Next}
@@ -99,8 +99,8 @@ module _ {K V H : Type 0} (laws : Laws K V H) (peer : Side K V H) (root : Tree K
   SteadyNext (Came rows) = ⊤
 
 -- how many of the rows are in a gap
-abbrev pub rows_in : {K V : Type 0} → (K → K → Ordering) → List (K × V) → Gap K → ℕ
-rows_in cmp rows g = total (λ r. times_in cmp r.0 g) rows
+abbrev pub count_in : {K V : Type 0} → (K → K → Ordering) → List (K × V) → Gap K → ℕ
+count_in cmp rows g = total (λ r. times_in cmp r.0 g) rows
 
 module _ {K V H : Type 0} (laws : Laws K V H) (peer : Side K V H) (root : Tree K (List ℕ)) where
   -- how many nodes the peer's page over a gap has
@@ -110,15 +110,15 @@ module _ {K V H : Type 0} (laws : Laws K V H) (peer : Side K V H) (root : Tree K
   -- what is left to ask for, so that each exchange leaves less: of what was found, by a question, and by both
   abbrev pub left_of : Found K V → ℕ
   left_of f =
-      3 * total (rows_in laws.cmp peer.rows) f.below
-      + (2 * total nodes_over f.nodes + (length f.wanted + (total (rows_in laws.cmp peer.rows) f.whole + length f.whole)))
+      3 * total (count_in laws.cmp peer.rows) f.below
+      + (2 * total nodes_over f.nodes + (length f.wanted + (total (count_in laws.cmp peer.rows) f.whole + length f.whole)))
 
   abbrev pub left_by : Question K → ℕ
   left_by (Root settings) = 3 * length peer.rows + 2
-  left_by (Outlines most gaps) = 3 * total (λ g. rows_in laws.cmp peer.rows (owned_gap g)) gaps.items
+  left_by (Outlines most gaps) = 3 * total (λ g. count_in laws.cmp peer.rows (owned_gap g)) gaps.items
   left_by (Nodes most gaps) = 2 * total (λ g. nodes_over (owned_gap g)) gaps.items
   left_by (RowsAt keys) = length keys.items
-  left_by (RowsIn gaps) = total (λ g. rows_in laws.cmp peer.rows (owned_gap g)) gaps.items + length gaps.items
+  left_by (RowsIn gaps) = total (λ g. count_in laws.cmp peer.rows (owned_gap g)) gaps.items + length gaps.items
 
   abbrev pub left_for : Underway K V → ℕ
   left_for u = left_by u.asked + left_of u.found
@@ -217,5 +217,5 @@ module _ {K V H : Type 0} (laws : Laws K V H) (n : ℕ) (encoding : K → List �
   abbrev pub AnswersAreTaken : (K → Type 0) → (V → Type 0) → Type 0
   AnswersAreTaken is_key is_value = (local peer : Side K V H) → IsMap laws.cmp local.rows → IsMap laws.cmp peer.rows → HasSmallMap laws n peer → CanBeTold laws is_key is_value peer
       → (begun last : Underway K V) (more : List (Underway K V)) → IsBegun begun → AreExchangesTo local peer begun more last
-      → (reply : List ℕ) (error : SessionError) → IsAnswer laws n encoding values local peer last reply
+      → (reply : List ℕ) (error : SessionError) → IsPeerReply laws n encoding values local peer last reply
       → IsStopped laws n encoding values is_key is_value local last reply error → IsMemoryOrLimit error

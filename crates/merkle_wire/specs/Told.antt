@@ -8,14 +8,14 @@ use Rattle.key_order.specs.Map.{get}
 use Rattle.merkle_bytes.specs.Encodings.{AddsBytes}
 use Rattle.merkle_bytes.specs.Options.{option_bytes}
 use Rattle.merkle_bytes.specs.Runs.{bound_key, row_behind}
+use Rattle.merkle_replica.specs.Contents.{Contents}
 use Rattle.merkle_search_tree.specs.Items.{items}
 use Rattle.merkle_search_tree.specs.declared.outline.OutlineItemOf.{OutlineItemOf}
-use Rattle.merkle_tree_theory.specs.State.{State}
 use Rattle.merkle_wire.specs.Messages.{front}
 use Rattle.merkle_wire.specs.Nodes.{node_pairs}
 use Rattle.merkle_wire.specs.Outlines.{Outline, AreNodes, IsTold, outline_bytes, keys_told, keys_among}
 use Rattle.merkle_wire.specs.Outlines.{nodes_digest, pages_beside, pages_bytes}
-use Rattle.merkle_wire.specs.Replies.{Answers, IsPartOf, Part, RowsFit, items_over, outlines_bytes, part_bytes, parts_bytes, rows_bytes, values_bytes}
+use Rattle.merkle_wire.specs.Replies.{TellsFirst, IsPartOf, Part, RowsFit, items_over, outlines_bytes, part_bytes, parts_bytes, rows_bytes, values_bytes}
 use Rattle.merkle_wire.specs.RowsAt.{AreRowsAt}
 use Rattle.merkle_wire.specs.declared.gaps.OwnedGap.{OwnedGap}
 use Rattle.merkle_wire.specs.declared.message.Kind.{Kind}
@@ -92,7 +92,7 @@ module _ {K V : Type 0} (cmp : K → K → Ordering) (encoding : K → List ℕ)
 
   -- so are the rows in the first of the gaps, after the front
   abbrev pub TellsParts : List (OwnedGap K) → Vec ℕ → Type 0
-  TellsParts gaps reply = (told : List (OwnedGap K × Part K V)) × Answers (IsPartOf cmp rows) gaps told
+  TellsParts gaps reply = (told : List (OwnedGap K × Part K V)) × TellsFirst (IsPartOf cmp rows) gaps told
       × (reply.items ≡ front rows_in_kind ++ parts_bytes encoding values told)
 
 module _ {K V : Type 0} (cmp : K → K → Ordering) (values : V → List ℕ) (rows : List (K × V)) where
@@ -102,17 +102,16 @@ module _ {K V : Type 0} (cmp : K → K → Ordering) (values : V → List ℕ) (
 
   -- so are the values at the first of the keys, after the front
   abbrev pub TellsValues : List (Wanted K) → Vec ℕ → Type 0
-  TellsValues keys reply = (told : List (Wanted K × Option V)) × Answers (λ wanted value. value ≡ get cmp rows wanted.key) keys told
+  TellsValues keys reply = (told : List (Wanted K × Option V)) × TellsFirst (λ wanted value. value ≡ get cmp rows wanted.key) keys told
       × (reply.items ≡ front rows_at_kind ++ values_bytes values told)
 
-module _ {K V H : Type 0} (cmp : K → K → Ordering) (bytes_of encoding : K → List ℕ) (values : V → List ℕ) (rows : List (K × V)) (tree : State K H)
-    (telling : Telling) where
+module _ {K V H : Type 0} (cmp : K → K → Ordering) (bytes_of encoding : K → List ℕ) (values : V → List ℕ) (side : Contents K V H) (telling : Telling) where
   -- what is told of the page over a gap is written
   abbrev pub TellsPage : OwnedGap K → Vec ℕ → Vec ℕ → Type 0
-  TellsPage gap old new = (told : Outline K V) × IsTold cmp rows telling.with_pages (items_over cmp bytes_of tree gap) told
+  TellsPage gap old new = (told : Outline K V) × IsTold cmp side.rows telling.with_pages (items_over cmp bytes_of side.tree gap) told
       × AddsBytes old (outline_bytes encoding values (bound_key encoding [] gap.after) told) new
 
   -- so is what is told of the pages over the first of the gaps, after the front of this kind
   abbrev pub TellsPages : Kind → List (OwnedGap K) → Vec ℕ → Type 0
-  TellsPages kind gaps reply = (told : List (OwnedGap K × Outline K V)) × Answers (λ g. IsTold cmp rows telling.with_pages (items_over cmp bytes_of tree g)) gaps told
+  TellsPages kind gaps reply = (told : List (OwnedGap K × Outline K V)) × TellsFirst (λ g. IsTold cmp side.rows telling.with_pages (items_over cmp bytes_of side.tree g)) gaps told
       × (reply.items ≡ front kind ++ outlines_bytes encoding values told)

@@ -5,7 +5,7 @@ use Rattle.std.specs.declared.cmp.Ordering.{Ordering}
 use Rattle.merkle_bytes.specs.Options.{IsOption, option_bytes}
 use Rattle.merkle_bytes.specs.Runs.{bound_key, run_bytes, row_behind, row_key}
 use Rattle.merkle_wire.specs.Coming.{IsPageDigest}
-use Rattle.merkle_wire.specs.Fit.{AreNodesIn, AreRowsIn, IsOutlineIn, IsPageIn, IsPartIn}
+use Rattle.merkle_wire.specs.Fit.{AreNodesIn, AreRowsIn, IsOutlineIn, IsPageTold, IsPartIn}
 use Rattle.merkle_wire.specs.Gaps.{owned_gap}
 use Rattle.merkle_wire.specs.Messages.{front}
 use Rattle.merkle_wire.specs.Outlines.{Outline, outline_bytes, keys_among, keys_told, pages_bytes}
@@ -49,7 +49,7 @@ module _ {K : Type 0} (cmp : K → K → Ordering) (is_key : K → Type 0) (enco
 
   -- no page over a gap, after a key
   abbrev pub NoPage : List ℕ → OwnedGap K → List ℕ → Type 0
-  NoPage last gap left = (digest : List ℕ) (keys : List K) (pages : List (Option (List ℕ))) (rest : List ℕ) → IsPageIn cmp is_key (owned_gap gap) digest keys pages
+  NoPage last gap left = (digest : List ℕ) (keys : List K) (pages : List (Option (List ℕ))) (rest : List ℕ) → IsPageTold cmp is_key (owned_gap gap) digest keys pages
       → left ≢ (digest ++ (keys_told encoding last keys ++ pages_bytes pages)) ++ rest
 
 module _ {K V : Type 0} (cmp : K → K → Ordering) (is_key : K → Type 0) (is_value : V → Type 0) (encoding : K → List ℕ) (values : V → List ℕ) where

@@ -1,13 +1,12 @@
 //! The answering side: a reply to a message, with nothing kept between messages.
 ghost use Rattle.std.specs.Prelude.{◌≡◌, false, IsSome, IsTrue, IfOk, IfErr, IfSome, Some};
-ghost use Rattle.std.specs.Option.{option_map};
 ghost use Rattle.merkle_tree_theory.specs.State.{SameSettings, map_of};
 ghost use Rattle.merkle_wire.specs.Faults.{IsUnread, OfMessage, answer_error_text};
 ghost use Rattle.merkle_wire.specs.Questions.{AsksNothing};
-ghost use Rattle.merkle_wire.specs.Replies.{EndsWithin, IsAnsweredBy, IsAnsweredOf, IsAnsweredWithin, IsReplyBy, RefusesOthers, RefusesQuestionOfOthers};
-ghost use Rattle.merkle_wire.specs.Replies.{TellsOthers, TellsSettings, root_page_digest, root_reply_bytes};
+ghost use Rattle.merkle_wire.specs.Replies.{EndsWithin, IsAnsweredBy, IsAnsweredWithin, IsReplyBy, RefusesOthers, RefusesQuestionOfOthers};
+ghost use Rattle.merkle_wire.specs.Replies.{TellsOthers, TellsSettings, root_bytes};
 
-use crate::kept_rows::KeptRows;
+use crate::kept_side::KeptSide;
 use crate::message::{Kind, begin};
 use crate::outlines::{Telling, tell_pages};
 use crate::pages::encode_page;
@@ -16,9 +15,8 @@ use crate::rows_at::tell_values;
 use crate::rows_in::tell_rows;
 use crate::settings::agree;
 use merkle_bytes::{Decode, Encode, ReadError, encode_count};
-use merkle_digest::{Hasher, Key, PageDigest};
+use merkle_digest::Key;
 use merkle_replica::{Join, Replica, RowHasher};
-use merkle_search_tree::{MerkleSearchTree, OutlineItem};
 use std::alloc::{AllocError, AllocFailed, Global};
 use std::fmt;
 
@@ -136,26 +134,25 @@ pub fn answer_within<
     ensures rows { replica.new.rows ≡ replica.old.rows }
     ensures settings { SameSettings replica.old.tree replica.new.tree }
 {
-    replica.hash();
-    let question = decode_question::<K>(alloc, message)?;
-    match reply_to(alloc, replica.tree(), replica, &question, most_bytes) {
+    match answer_by(alloc, replica, &(), message, most_bytes) {
         Ok(reply) => Ok(reply),
         Err(KeptError::Answer(error)) => Err(error),
-        Err(KeptError::Rows(_)) => Err(AnswerError::Memory),
+        Err(KeptError::Kept(_)) => Err(AnswerError::Memory),
     }
 }
 
-/// Why a side whose rows are kept elsewhere has no reply to a message.
+/// Why a side whose tree or rows are kept elsewhere has no reply to a message.
 #[derive(Drop)]
 pub enum KeptError<E> {
     /// The message has none. The asking side is to be sent a [`refusal`](crate::refusal).
     Answer(AnswerError),
-    /// The rows couldn't be told.
-    Rows(E),
+    /// The tree or the rows couldn't be read.
+    Kept(E),
 }
 
-/// The reply to a message of a side whose rows are kept anywhere, with the digests of their values in a tree. It is the reply that [`answer_within`]
-/// gives. Pages that lack a digest get one.
+/// The reply to a message of a side whose tree and rows are kept anywhere. It is the reply that [`answer_within`] gives. `beside` has the rows where
+/// these stand beside the tree, as a [`KeptRows`](crate::KeptRows) of them does for a tree in memory; it is `()` where the side has them itself. Pages
+/// that lack a digest get one.
 ///
 /// # Errors
 ///
@@ -164,25 +161,29 @@ pub fn answer_by<
     K: Key + Decode,
     V: Join + Encode + Drop,
     H: RowHasher<N, K, V>,
-    R: KeptRows<K, V>,
+    S: KeptSide<N, K, V, H, R>,
+    R,
     const N: usize,
 >(
     alloc: Global,
-    tree: &mut MerkleSearchTree<K, V, H, N>,
-    rows: &R,
+    side: &mut S,
+    beside: &R,
     message: &[u8],
     most_bytes: usize,
-) -> Result<Vec<u8>, KeptError<R::Error>>
-    ensures answered { IfOk result (IsAnsweredOf H.laws N K.encoding V.encoding (R.rows rows.now) tree.new message.now) }
+) -> Result<Vec<u8>, KeptError<S::Error>>
+    ensures answered { IfOk result (IsAnsweredBy H.laws N K.encoding V.encoding (S.contents side.old beside.now) (S.contents side.new beside.now) message.now) }
     ensures within { IfOk result (IsAnsweredWithin K.encoding V.encoding most_bytes message.now) }
     ensures malformed { IfErr result (OfMessage (λ error. IsUnread error → AsksNothing K.encoding K.is_value message.now)) }
-    ensures other_settings { IfErr result (OfMessage (RefusesOthers H.laws N K.encoding tree.new message.now)) }
-    ensures map { map_of tree.new ≡ map_of tree.old }
-    ensures settings { SameSettings tree.old tree.new }
+    ensures other_settings { IfErr result (OfMessage (RefusesOthers H.laws N K.encoding (S.contents side.new beside.now).tree message.now)) }
+    ensures rows { (S.contents side.new beside.now).rows ≡ (S.contents side.old beside.now).rows }
+    ensures map { map_of (S.contents side.new beside.now).tree ≡ map_of (S.contents side.old beside.now).tree }
+    ensures settings { SameSettings (S.contents side.old beside.now).tree (S.contents side.new beside.now).tree }
 {
-    let _ = tree.root_hash_counted();
+    if let Err(error) = side.hash(beside) {
+        return Err(KeptError::Kept(error));
+    }
     match decode_question::<K>(alloc, message) {
-        Ok(question) => reply_to(alloc, tree, rows, &question, most_bytes),
+        Ok(question) => reply_to(alloc, side, beside, &question, most_bytes),
         Err(error) => Err(KeptError::Answer(AnswerError::from(error))),
     }
 }
@@ -203,10 +204,10 @@ pub(crate) fn own_reply<
     ensures settings { SameSettings replica.old.tree replica.new.tree }
 {
     replica.hash();
-    match reply_to(alloc, replica.tree(), replica, question, MOST_BYTES) {
+    match reply_to(alloc, replica, &(), question, MOST_BYTES) {
         Ok(reply) => Ok(Some(reply)),
         Err(KeptError::Answer(_)) => Ok(None),
-        Err(KeptError::Rows(error)) => Err(error),
+        Err(KeptError::Kept(error)) => Err(error),
     }
 }
 
@@ -215,40 +216,47 @@ fn reply_to<
     K: Key + Decode,
     V: Join + Encode + Drop,
     H: RowHasher<N, K, V>,
-    R: KeptRows<K, V>,
+    S: KeptSide<N, K, V, H, R>,
+    R,
     const N: usize,
 >(
     alloc: Global,
-    tree: &MerkleSearchTree<K, V, H, N>,
-    rows: &R,
+    side: &mut S,
+    beside: &R,
     question: &Question<K>,
     most_bytes: usize,
-) -> Result<Vec<u8>, KeptError<R::Error>>
-    requires hashed { IsSome tree.now.root_hash }
-    ensures reply { IfOk result (IsReplyBy H.laws N K.encoding V.encoding (R.rows rows.now) tree.now question.now) }
+) -> Result<Vec<u8>, KeptError<S::Error>>
+    requires hashed { IsSome (S.contents side.old beside.now).tree.root_hash }
+    ensures reply { IfOk result (IsReplyBy H.laws N K.encoding V.encoding (S.contents side.old beside.now).rows
+        (S.contents side.old beside.now).tree question.now) }
     ensures within { IfOk result (λ reply. EndsWithin K.encoding V.encoding most_bytes question.now reply.items) }
     ensures read { IfErr result (OfMessage (λ error. ¬ IsUnread error)) }
-    ensures others { IfErr result (OfMessage (RefusesQuestionOfOthers H.laws N tree.now question.now)) }
+    ensures others { IfErr result (OfMessage (RefusesQuestionOfOthers H.laws N (S.contents side.old beside.now).tree question.now)) }
+    ensures kept { S.contents side.new beside.now ≡ S.contents side.old beside.now }
 {
-    if !tells_settings(tree, question) {
+    if !tells_settings(side, beside, question) {
         return Err(KeptError::Answer(AnswerError::OtherSettings));
     }
-    match tell(alloc, tree, rows, question, most_bytes) {
+    match tell(alloc, side, beside, question, most_bytes) {
         Ok(reply) => Ok(reply),
-        Err(error) => Err(KeptError::Rows(error)),
+        Err(error) => Err(KeptError::Kept(error)),
     }
 }
 
 /// Whether a question tells the settings of the tree, where it tells any.
-fn tells_settings<K: Key, V: Join, H: RowHasher<N, K, V>, const N: usize>(
-    tree: &MerkleSearchTree<K, V, H, N>,
-    question: &Question<K>,
-) -> bool
-    ensures own { IsTrue result → TellsSettings H.laws N tree.now question.now }
-    ensures others { result ≡ false → TellsOthers H.laws N tree.now question.now }
+fn tells_settings<
+    K: Key + Encode,
+    V: Join + Encode,
+    H: RowHasher<N, K, V>,
+    S: KeptSide<N, K, V, H, R>,
+    R,
+    const N: usize,
+>(side: &S, beside: &R, question: &Question<K>) -> bool
+    ensures own { IsTrue result → TellsSettings H.laws N (S.contents side.now beside.now).tree question.now }
+    ensures others { result ≡ false → TellsOthers H.laws N (S.contents side.now beside.now).tree question.now }
 {
     match question {
-        Question::Root(settings) => agree(tree, settings),
+        Question::Root(settings) => side.has_settings(beside, settings),
         Question::Outlines(_, _) => true,
         Question::Nodes(_, _) => true,
         Question::RowsAt(_) => true,
@@ -261,70 +269,69 @@ fn tell<
     K: Key + Decode,
     V: Join + Encode + Drop,
     H: RowHasher<N, K, V>,
-    R: KeptRows<K, V>,
+    S: KeptSide<N, K, V, H, R>,
+    R,
     const N: usize,
 >(
     alloc: Global,
-    tree: &MerkleSearchTree<K, V, H, N>,
-    rows: &R,
+    side: &mut S,
+    beside: &R,
     question: &Question<K>,
     most_bytes: usize,
-) -> Result<Vec<u8>, R::Error>
-    requires hashed { IsSome tree.now.root_hash }
-    requires settings { TellsSettings H.laws N tree.now question.now }
-    ensures reply { IfOk result (IsReplyBy H.laws N K.encoding V.encoding (R.rows rows.now) tree.now question.now) }
+) -> Result<Vec<u8>, S::Error>
+    requires hashed { IsSome (S.contents side.old beside.now).tree.root_hash }
+    requires settings { TellsSettings H.laws N (S.contents side.old beside.now).tree question.now }
+    ensures reply { IfOk result (IsReplyBy H.laws N K.encoding V.encoding (S.contents side.old beside.now).rows
+        (S.contents side.old beside.now).tree question.now) }
     ensures within { IfOk result (λ reply. EndsWithin K.encoding V.encoding most_bytes question.now reply.items) }
+    ensures kept { S.contents side.new beside.now ≡ S.contents side.old beside.now }
 {
     match question {
-        Question::Root(_) => {
-            let count = rows.count()?;
-            Ok(root_reply(alloc, tree, count)?)
-        }
+        Question::Root(_) => tell_root(alloc, side, beside),
         Question::Outlines(most, gaps) => {
             let telling = Telling {
                 with_pages: true,
                 most: *most,
-                most_bytes,
             };
-            tell_pages(alloc, tree, rows, Kind::Outlines, telling, gaps)
+            tell_pages(
+                alloc,
+                side,
+                beside,
+                Kind::Outlines,
+                telling,
+                most_bytes,
+                gaps,
+            )
         }
         Question::Nodes(most, gaps) => {
             let telling = Telling {
                 with_pages: false,
                 most: *most,
-                most_bytes,
             };
-            tell_pages(alloc, tree, rows, Kind::Nodes, telling, gaps)
+            tell_pages(alloc, side, beside, Kind::Nodes, telling, most_bytes, gaps)
         }
-        Question::RowsAt(keys) => tell_values(alloc, rows, most_bytes, keys),
-        Question::RowsIn(gaps) => tell_rows(alloc, rows, most_bytes, gaps),
+        Question::RowsAt(keys) => tell_values(alloc, side, beside, most_bytes, keys),
+        Question::RowsIn(gaps) => tell_rows(alloc, side, beside, most_bytes, gaps),
     }
 }
 
 /// The number of rows, and the digest of the root page, or none.
-fn root_reply<K: Key + Encode, V, H: Hasher<N, K>, const N: usize>(
-    alloc: Global,
-    tree: &MerkleSearchTree<K, V, H, N>,
-    count: u64,
-) -> Result<Vec<u8>, AllocError>
-    requires hashed { IsSome tree.now.root_hash }
-    ensures { IfOk result (λ bytes. bytes.items ≡ root_reply_bytes count (root_page_digest K.bytes_of tree.now)) }
+fn tell_root<
+    K: Key + Encode,
+    V: Join + Encode,
+    H: RowHasher<N, K, V>,
+    S: KeptSide<N, K, V, H, R>,
+    R,
+    const N: usize,
+>(alloc: Global, side: &mut S, beside: &R) -> Result<Vec<u8>, S::Error>
+    requires hashed { IsSome (S.contents side.old beside.now).tree.root_hash }
+    ensures told { IfOk result (λ reply. reply.items ≡ root_bytes K.bytes_of (S.contents side.old beside.now).rows (S.contents side.old beside.now).tree) }
+    ensures kept { S.contents side.new beside.now ≡ S.contents side.old beside.now }
 {
+    let count = side.count(beside)?;
+    let digest = side.root_digest(beside)?;
     let mut bytes = begin(alloc, Kind::Root)?;
     encode_count(count, &mut bytes)?;
-    encode_page(root_digest(tree), &mut bytes)?;
+    encode_page(digest.as_ref(), &mut bytes)?;
     Ok(bytes)
-}
-
-/// The digest of the root page, where there is a row.
-fn root_digest<K: Key, V, H: Hasher<N, K>, const N: usize>(
-    tree: &MerkleSearchTree<K, V, H, N>,
-) -> Option<&PageDigest>
-    requires hashed { IsSome tree.now.root_hash }
-    ensures { option_map (λ digest. digest.now) result ≡ root_page_digest K.bytes_of tree.now }
-{
-    match tree.whole() {
-        Some(OutlineItem::Page(_, digest)) => Some(digest),
-        _ => None,
-    }
 }

@@ -6,6 +6,7 @@ mod catching_up;
 mod coming;
 mod gaps;
 mod kept_rows;
+mod kept_side;
 mod kept_tree;
 pub mod laws;
 mod limits;
@@ -30,10 +31,12 @@ pub use answering::{AnswerError, KeptError, MOST_BYTES, answer, answer_by, answe
 pub use catching_up::{CatchingUp, Next};
 pub use gaps::OwnedGap;
 pub use kept_rows::KeptRows;
+pub use kept_side::KeptSide;
 pub use kept_tree::KeptTree;
 pub use limits::{Limit, Limits};
 pub use merkle_bytes as bytes;
 pub use message::{Kind, refusal};
+pub use outlines::{Telling, tell_outline};
 pub use question::{Question, decode_question};
 pub use rows_in::tell_part;
 pub use session::{

@@ -4,58 +4,61 @@ ghost use Rattle.merkle_bytes.specs.Encodings.{AddsBytes};
 ghost use Rattle.merkle_search_tree.specs.Items.{items};
 ghost use Rattle.merkle_wire.specs.Messages.{front};
 ghost use Rattle.merkle_wire.specs.Outlines.{HasNoPage, pages_beside, pages_bytes};
-ghost use Rattle.merkle_wire.specs.Replies.{HasRoom, IsFull, OutlinesFit, items_over};
-ghost use Rattle.merkle_wire.specs.Told.{TellsItems, TellsPage, TellsPages, bound_before, page_bytes};
+ghost use Rattle.merkle_wire.specs.Replies.{IsNotFull, IsFull, OutlinesFit, items_over};
+ghost use Rattle.merkle_wire.specs.Told.{TellsItems, TellsPages, bound_before, page_bytes};
 
 use crate::gaps::OwnedGap;
 use crate::kept_rows::KeptRows;
+use crate::kept_side::KeptSide;
 use crate::message::{Kind, begin};
 use crate::nodes::{NodeRef, encode_keys, nodes_digest, nodes_of, write_nodes};
 use crate::pages::encode_page;
 use merkle_bytes::{Encode, KeyRun};
 use merkle_digest::{Hasher, Key, PageDigest};
+use merkle_replica::{Join, RowHasher};
 use merkle_search_tree::{MerkleSearchTree, OutlineItem};
 use std::alloc::{AllocError, Global};
 
 /// How many bytes stand at the front of a message.
 const FRONT: usize = 2;
 
-/// What is told of pages.
+/// How pages are told.
 #[derive(Clone, Copy, Drop)]
-pub(crate) struct Telling {
+pub struct Telling {
     /// Whether the pages below them are told too.
-    pub(crate) with_pages: bool,
+    pub with_pages: bool,
     /// How many bytes values may have, on average, for rows to be told in place of digests.
-    pub(crate) most: u64,
-    /// How many bytes a reply has at which it ends.
-    pub(crate) most_bytes: usize,
+    pub most: u64,
 }
 
 /// A message of this kind that tells of the pages over the gaps, one after the other, as far as the bytes suffice.
 pub(crate) fn tell_pages<
     K: Key + Encode + Drop,
-    V: Encode,
-    H: Hasher<N, K>,
-    R: KeptRows<K, V>,
+    V: Join + Encode,
+    H: RowHasher<N, K, V>,
+    S: KeptSide<N, K, V, H, R>,
+    R,
     const N: usize,
 >(
     alloc: Global,
-    tree: &MerkleSearchTree<K, V, H, N>,
-    rows: &R,
+    side: &mut S,
+    beside: &R,
     kind: Kind,
     telling: Telling,
+    most_bytes: usize,
     gaps: &[OwnedGap<K>],
-) -> Result<Vec<u8>, R::Error>
-    requires hashed { IsSome tree.now.root_hash }
-    ensures told { IfOk result (TellsPages K.cmp K.bytes_of K.encoding V.encoding (R.rows rows.now) tree.now telling kind gaps.now) }
-    ensures fits { IfOk result (λ reply. OutlinesFit K.encoding V.encoding telling.most_bytes gaps.now (front kind) reply.items) }
+) -> Result<Vec<u8>, S::Error>
+    requires hashed { IsSome (S.contents side.old beside.now).tree.root_hash }
+    ensures told { IfOk result (TellsPages K.cmp K.bytes_of K.encoding V.encoding (S.contents side.old beside.now) telling kind gaps.now) }
+    ensures fits { IfOk result (λ reply. OutlinesFit K.encoding V.encoding most_bytes gaps.now (front kind) reply.items) }
+    ensures kept { S.contents side.new beside.now ≡ S.contents side.old beside.now }
 {
     let mut bytes = begin(alloc, kind)?;
     'gaps: for gap in gaps {
-        if is_full(&bytes, telling.most_bytes) {
+        if is_full(&bytes, most_bytes) {
             return Ok(bytes);
         }
-        tell_page(alloc, tree, rows, telling, gap, &mut bytes)?;
+        side.tell_page(alloc, beside, telling, gap, &mut bytes)?;
     }
     Ok(bytes)
 }
@@ -63,30 +66,13 @@ pub(crate) fn tell_pages<
 /// Whether a message that has an entry has as many bytes as it may have.
 pub(crate) fn is_full(bytes: &[u8], most: usize) -> bool
     ensures full { IsTrue result → IsFull most bytes.now }
-    ensures room { result ≡ false → HasRoom most bytes.now }
+    ensures room { result ≡ false → IsNotFull most bytes.now }
 {
     bytes.len() > FRONT && bytes.len() >= most
 }
 
-/// Writes what is told of the page over a gap.
-fn tell_page<K: Key + Encode + Drop, V: Encode, H: Hasher<N, K>, R: KeptRows<K, V>, const N: usize>(
-    alloc: Global,
-    tree: &MerkleSearchTree<K, V, H, N>,
-    rows: &R,
-    telling: Telling,
-    gap: &OwnedGap<K>,
-    bytes: &mut Vec<u8>,
-) -> Result<(), R::Error>
-    requires { IsSome tree.now.root_hash }
-    ensures { OnOk result (TellsPage K.cmp K.bytes_of K.encoding V.encoding (R.rows rows.now) tree.now telling gap.now bytes.old bytes.new) }
-{
-    let list = outline_over(tree, gap)?;
-    tell_items(alloc, rows, telling, &list, gap.after.as_ref(), bytes)?;
-    Ok(())
-}
-
 /// The items of the page over a gap.
-fn outline_over<'a, K: Key + Drop, V, H: Hasher<N, K>, const N: usize>(
+pub(crate) fn outline_over<'a, K: Key + Drop, V, H: Hasher<N, K>, const N: usize>(
     tree: &'a MerkleSearchTree<K, V, H, N>,
     gap: &'a OwnedGap<K>,
 ) -> Result<Vec<OutlineItem<'a, N, K>>, AllocError>
@@ -99,8 +85,14 @@ fn outline_over<'a, K: Key + Drop, V, H: Hasher<N, K>, const N: usize>(
     }
 }
 
-/// Writes what is told of a page with these items.
-fn tell_items<K: Key + Encode + Drop, V: Encode, R: KeptRows<K, V>, const N: usize>(
+/// Adds what is told of a page by its items, the nodes with the pages before, between and after them: the digests of the pages below where these are
+/// asked for, else its rows where they are at hand and short, else its keys with the digests of their values. `after` is the bound that its keys are
+/// above.
+///
+/// # Errors
+///
+/// Out of memory, or the rows can't be read.
+pub fn tell_outline<K: Key + Encode + Drop, V: Encode, R: KeptRows<K, V>, const N: usize>(
     alloc: Global,
     rows: &R,
     telling: Telling,

@@ -1,25 +1,35 @@
-//! The values of a map at keys.
+//! The values of a side at keys.
 ghost use Rattle.std.specs.Prelude.{◌≡◌, ◌++◌, ◌∷◌, IfOk, OnOk};
 ghost use Rattle.merkle_wire.specs.Messages.{front};
 ghost use Rattle.merkle_wire.specs.Replies.{ValuesFit};
 ghost use Rattle.merkle_wire.specs.Told.{TellsValue, TellsValues};
 
-use crate::kept_rows::KeptRows;
+use crate::kept_side::KeptSide;
 use crate::message::{Kind, begin};
 use crate::outlines::is_full;
 use crate::wanted::Wanted;
 use merkle_bytes::Encode;
 use merkle_digest::Key;
+use merkle_replica::{Join, RowHasher};
 use std::alloc::{AllocError, Global};
 
 /// A message that tells the values at the keys, one after the other, as far as the bytes suffice.
-pub(crate) fn tell_values<K: Key + Encode + Drop, V: Encode, R: KeptRows<K, V>>(
+pub(crate) fn tell_values<
+    K: Key + Encode + Drop,
+    V: Join + Encode,
+    H: RowHasher<N, K, V>,
+    S: KeptSide<N, K, V, H, R>,
+    R,
+    const N: usize,
+>(
     alloc: Global,
-    rows: &R,
+    side: &mut S,
+    beside: &R,
     most_bytes: usize,
     keys: &[Wanted<K>],
-) -> Result<Vec<u8>, R::Error>
-    ensures told { IfOk result (TellsValues K.cmp V.encoding (R.rows rows.now) keys.now) }
+) -> Result<Vec<u8>, S::Error>
+    ensures told { IfOk result (TellsValues K.cmp V.encoding (S.contents side.old beside.now).rows keys.now) }
+    ensures kept { S.contents side.new beside.now ≡ S.contents side.old beside.now }
     ensures fits { IfOk result (λ reply. ValuesFit V.encoding most_bytes keys.now (front Kind.RowsAt) reply.items) }
 {
     let mut bytes = begin(alloc, Kind::RowsAt)?;
@@ -27,22 +37,25 @@ pub(crate) fn tell_values<K: Key + Encode + Drop, V: Encode, R: KeptRows<K, V>>(
         if is_full(&bytes, most_bytes) {
             return Ok(bytes);
         }
-        tell_value(alloc, rows, &wanted.key, &mut bytes)?;
+        tell_value(alloc, side, beside, &wanted.key, &mut bytes)?;
     }
     Ok(bytes)
 }
 
 /// Writes the value at a key: a byte 0 where there is none, or a byte 1 and the value.
-fn tell_value<K: Key + Encode, V: Encode, R: KeptRows<K, V>>(
-    alloc: Global,
-    rows: &R,
-    key: &K,
-    bytes: &mut Vec<u8>,
-) -> Result<(), R::Error>
-    ensures { OnOk result (TellsValue K.cmp V.encoding (R.rows rows.now) key.now bytes.old bytes.new) }
+fn tell_value<
+    K: Key + Encode,
+    V: Join + Encode,
+    H: RowHasher<N, K, V>,
+    S: KeptSide<N, K, V, H, R>,
+    R,
+    const N: usize,
+>(alloc: Global, side: &mut S, beside: &R, key: &K, bytes: &mut Vec<u8>) -> Result<(), S::Error>
+    ensures told { OnOk result (TellsValue K.cmp V.encoding (S.contents side.old beside.now).rows key.now bytes.old bytes.new) }
+    ensures kept { S.contents side.new beside.now ≡ S.contents side.old beside.now }
 {
     let mut value = Vec::new(alloc);
-    if rows.add_value(key, &mut value)? {
+    if side.add_value(beside, key, &mut value)? {
         write_some(&value, bytes)?;
         Ok(())
     } else {

@@ -1,4 +1,4 @@
-//! The rows of a map in gaps.
+//! The rows of a side in gaps.
 ghost use Rattle.std.specs.Prelude.{◌≡◌, ◌≢◌, ◌≤◌, ◌⊎◌, true, false, cond, not, length, take, drop, [], IfOk, OnOk};
 ghost use Rattle.std.specs.List.{AllByRecursion};
 ghost use Rattle.key_order.specs.Map.{IsMap};
@@ -9,20 +9,31 @@ ghost use Rattle.merkle_wire.specs.Replies.{PartsFit};
 ghost use Rattle.merkle_wire.specs.Told.{AddsFirst, LeavesRoom, TellsPart, TellsParts};
 
 use crate::gaps::OwnedGap;
-use crate::kept_rows::KeptRows;
+use crate::kept_side::KeptSide;
 use crate::message::{Kind, begin};
 use crate::outlines::is_full;
 use merkle_bytes::{Encode, EncodeInRun, KeyRun, encode_count};
+use merkle_digest::Key;
+use merkle_replica::{Join, RowHasher};
 use std::alloc::{AllocError, Global};
 
 /// A message that tells the rows in the gaps, one gap after the other, as far as the bytes suffice.
-pub(crate) fn tell_rows<K: Ord + Encode, V: Encode, R: KeptRows<K, V>>(
+pub(crate) fn tell_rows<
+    K: Key + Encode,
+    V: Join + Encode,
+    H: RowHasher<N, K, V>,
+    S: KeptSide<N, K, V, H, R>,
+    R,
+    const N: usize,
+>(
     alloc: Global,
-    rows: &R,
+    side: &mut S,
+    beside: &R,
     most_bytes: usize,
     gaps: &[OwnedGap<K>],
-) -> Result<Vec<u8>, R::Error>
-    ensures told { IfOk result (TellsParts K.cmp K.encoding V.encoding (R.rows rows.now) gaps.now) }
+) -> Result<Vec<u8>, S::Error>
+    ensures told { IfOk result (TellsParts K.cmp K.encoding V.encoding (S.contents side.old beside.now).rows gaps.now) }
+    ensures kept { S.contents side.new beside.now ≡ S.contents side.old beside.now }
     ensures fits { IfOk result (λ reply. PartsFit K.encoding V.encoding most_bytes gaps.now (front Kind.RowsIn) reply.items) }
 {
     let mut bytes = begin(alloc, Kind::RowsIn)?;
@@ -30,7 +41,7 @@ pub(crate) fn tell_rows<K: Ord + Encode, V: Encode, R: KeptRows<K, V>>(
         if is_full(&bytes, most_bytes) {
             return Ok(bytes);
         }
-        rows.add_part(most_bytes, gap, &mut bytes)?;
+        side.add_part(beside, most_bytes, gap, &mut bytes)?;
     }
     Ok(bytes)
 }

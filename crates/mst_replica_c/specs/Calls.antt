@@ -112,7 +112,7 @@ abbrev pub IsOver : ByteReplica → Type 0
 IsOver new = (new.session ≡ None) × (new.message.items ≡ [])
 
 -- the catch-up took the reply, this many rows came, and they are joined
-pub record HasJoined (reply : List ℕ) (joined : ℕ) (old new : ByteReplica) : Type 0 where
+pub record JoinsWhatCame (reply : List ℕ) (joined : ℕ) (old new : ByteReplica) : Type 0 where
   pub rows : Vec (Vec ℕ × ByteValue)
   pub taken : HasTaken reply (Came rows) old
   pub counted : joined ≡ length rows.items
@@ -158,7 +158,7 @@ pub record IsStoppedBy (reply : List ℕ) (status : ℕ) (old : ByteReplica) : T
 -- what is done with a reply, by what comes after it
 abbrev pub IsTaken : List ℕ → Taken → ByteReplica → ByteReplica → Type 0
 IsTaken reply Asks old new = AsksOn reply old new
-IsTaken reply (Joined count) old new = HasJoined reply count old new
+IsTaken reply (Joined count) old new = JoinsWhatCame reply count old new
 IsTaken reply (Cut count) old new = IsCutShort reply count old new
 IsTaken reply (Failed status) old new = IsDropped old new × IsEarly status × IsStoppedBy reply status old
 

@@ -2,7 +2,7 @@
 ghost use Rattle.std.specs.Prelude.{◌≡◌, ◌≢◌, ◌↔◌, ◌⊎◌, None, length};
 ghost use Rattle.merkle_wire.specs.Messages.{front};
 ghost use Rattle.merkle_wire.specs.declared.message.Kind.TheVariants.{Refusal};
-ghost use Rattle.mst_replica_c.specs.Calls.{AsksOn, HasBegun, HasJoined, IsAnswered, IsCut, IsDropped, IsIdle, IsNoQuestion, IsOfOthers, IsStoppedBy, SameMessage, SameRows, SameSession};
+ghost use Rattle.mst_replica_c.specs.Calls.{AsksOn, HasBegun, JoinsWhatCame, IsAnswered, IsCut, IsDropped, IsIdle, IsNoQuestion, IsOfOthers, IsStoppedBy, SameMessage, SameRows, SameSession};
 ghost use Rattle.mst_replica_c.specs.Handles.{Has, Changes, IsOutput, IsShort};
 
 use crate::byte_replica::Taken;
@@ -122,7 +122,7 @@ pub extern "C" fn mst_proved_replica_take(
 ) -> u32
     ensures asks { result ≡ 0 → len.new ≢ 0 → Changes handle.old.held handle.new.held (AsksOn reply.now) }
     ensures none_yet { result ≡ 0 → len.new ≢ 0 → joined.new ≡ 0 }
-    ensures joined { result ≡ 0 → len.new ≡ 0 → Changes handle.old.held handle.new.held (HasJoined reply.now joined.new) }
+    ensures joined { result ≡ 0 → len.new ≡ 0 → Changes handle.old.held handle.new.held (JoinsWhatCame reply.now joined.new) }
     ensures len { result ≡ 0 → Has handle.new.held (λ h. len.new ≡ length h.message.items) }
     ensures cut { result ≡ 1 → Changes handle.old.held handle.new.held (IsCut reply.now joined.new) }
     ensures dropped { (result ≡ 2) ⊎ (result ≡ 7) → Changes handle.old.held handle.new.held IsDropped }

@@ -5,7 +5,7 @@ use Rattle.c_rows.specs.Values.{key_cmp}
 use Rattle.key_order.specs.Map.{get}
 use Rattle.merkle_tree_theory.specs.Gap.{pairs_within}
 use Rattle.merkle_wire.specs.Gaps.{owned_gap}
-use Rattle.merkle_wire.specs.Replies.{Answers, IsPartOf}
+use Rattle.merkle_wire.specs.Replies.{TellsFirst, IsPartOf}
 use Rattle.merkle_wire.specs.declared.question.Question.TheVariants.{Root, Outlines, Nodes, RowsAt, RowsIn}
 use Rattle.mst_sync_c.specs.Agreeing.{ReplyAlike}
 
@@ -16,7 +16,7 @@ module _ {X Y : Type 0} (P Q : X → Y → Type 0) (R : X → Type 0) (carries :
   each_told [] left r p = tt
   each_told (t ∷ ts) left r p = (carries t.0 t.1 r.0 p.0, each_told ts left r.1 p.1)
 
-  pub told_alike : (asked : List X) (told : List (X × Y)) → AllByRecursion R asked → Answers P asked told → Answers Q asked told
+  pub told_alike : (asked : List X) (told : List (X × Y)) → AllByRecursion R asked → TellsFirst P asked told → TellsFirst Q asked told
   told_alike asked told r answers = record {
     left = answers.left;
     begins = answers.begins;

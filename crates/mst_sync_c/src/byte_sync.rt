@@ -259,7 +259,7 @@ impl ByteSync {
                 DONE
             }
             Err(KeptError::Answer(error)) => self.fail(alloc, error),
-            Err(KeptError::Rows(_)) => MEMORY,
+            Err(KeptError::Kept(_)) => MEMORY,
         }
     }
 
@@ -308,7 +308,7 @@ impl ByteSync {
                 DONE
             }
             Err(KeptError::Answer(error)) => self.fail(alloc, error),
-            Err(KeptError::Rows(error)) => handed_status(error),
+            Err(KeptError::Kept(error)) => handed_status(error),
         }
     }
 

@@ -19,7 +19,8 @@ returns-in-Ok-clause-join g c = rw g.met.H.RowHasher.laws_are (
     let beyond = side c.args.hub.now in
     let count = length all in
     let (met, made) = (rw g.met.H.RowHasher.laws_are at c.in_default.ensures.sessions) beyond in
-    let (later, spread) = subst (λ n. AreMade laws c.gather.new.hub c.gather.new.others c.spread.new.hub c.spread.new.others (spreading n)) c.gather.ensures.len (rw g.met.H.RowHasher.laws_are at c.in-Ok.ensures.sessions) beyond in
+    let (later, spread) = subst (λ n. AreMade laws c.gather.new.hub c.gather.new.others c.spread.new.hub c.spread.new.others (spreading n)) c.gather.ensures.len
+    (rw g.met.H.RowHasher.laws_are at c.in-Ok.ensures.sessions) beyond in
     let sessions = sessions-append laws (gathering count) (spreading count) (numbered beyond first) (numbered beyond mid) (numbered beyond last) met later made spread in
     let ascend = numbered_each (λ s. IsMap g.K.Ord.cmp s.rows) beyond first c.rows.ensures.ascending (c.rows.ensures.ascending, c.in_default.ensures.ascending) in
     let long = ap suc (length-map c.spread.new.others side ∙ c.spread.ensures.len ∙ c.gather.ensures.len) in
@@ -27,7 +28,8 @@ returns-in-Ok-clause-join g c = rw g.met.H.RowHasher.laws_are (
       met = _;
       sessions = sessions;
       join = λ faithful.
-          let (gossip, all_faithful) = are_gossip laws g.met.K.Ord.total g.met.V.Eq.laws g.met.V.Join.joining g.met.H.Hasher-2.respects_eq (through_hub count) (numbered beyond first) (numbered beyond last) _ ascend sessions faithful in
+          let (gossip, all_faithful) = are_gossip laws g.met.K.Ord.total g.met.V.Eq.laws g.met.V.Join.joining g.met.H.Hasher-2.respects_eq (through_hub count)
+          (numbered beyond first) (numbered beyond last) _ ascend sessions faithful in
           all_hold laws c.gossip_joins_what_came.ensures.same beyond (map side all) last count (sym (length-map all side)) long
           ((rw g.met.H.RowHasher.laws_are at c.gossip_joins_what_came.ensures.joins) (through_hub count) (numbered beyond first) (numbered beyond last) _ ascend gossip all_faithful);
     })

@@ -15,8 +15,11 @@ returns-in-Equal g c =
     let key = c.args.key.now in
     let i = c.rows.row-index in
     let x = c.row-item.result in
-    let same = sym c.cmp.ensures ∙ c.in-Equal.is in
-    (same, c.rows.invariant ∙ ap (λ rs. get cmp rs key) (drop_more rows i x c.rows-test.true ∙ ap (λ y. y ∷ drop (i + 1) rows) (sym c.row-item.is)) ∙ at_head cmp g.met.K.Ord.total x (drop (i + 1) rows) key same)
+    let same = sym c.cmp.ensures ∙ c.in-Equal.is in (
+      same,
+      c.rows.invariant ∙ ap (λ rs. get cmp rs key) (drop_more rows i x c.rows-test.true ∙ ap (λ y. y ∷ drop (i + 1) rows) (sym c.row-item.is))
+          ∙ at_head cmp g.met.K.Ord.total x (drop (i + 1) rows) key same,
+    )
 
 pub returns : goal.returns
 returns g c = c.rows.invariant ∙ ap (λ rs. get g.K.Ord.cmp rs c.args.key.now) (drop_all c.rows.row-index c.args.rows.now c.rows-test.false)

@@ -17,7 +17,8 @@ returns g c = rw g.met.H.RowHasher.laws_are (
             let (first, second) = all faith (omega arith) in record {
               first = first;
               second = second;
-              same = same_joins g.K.Ord.cmp g.met.K.Ord.total g.V.PartialEq.eq g.met.V.Eq.laws g.V.Join.join_of g.met.V.Join.joining c.args.a.now.rows c.args.b.now.rows c.pull_by_turns.new.a.rows c.pull_by_turns.new.b.rows first second;
+              same = same_joins g.K.Ord.cmp g.met.K.Ord.total g.V.PartialEq.eq g.met.V.Eq.laws g.V.Join.join_of g.met.V.Join.joining c.args.a.now.rows c.args.b.now.rows
+                  c.pull_by_turns.new.a.rows c.pull_by_turns.new.b.rows first second;
             };
       };
       stopped = tt;

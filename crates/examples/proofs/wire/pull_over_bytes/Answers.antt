@@ -38,4 +38,5 @@ returns-clause-refused c =
     (either
     (λ same. inl (same ∙ stays))
     (λ j. inr (c.messages_are_a_pull.ensures.part (side local) (side peer) ranges asked rows c.join.new.store.rows c.rows.ensures.ascending c.in_ok-page_ranges.ensures.message asks sends
-    (subst (λ s. JoinsFirstRows s rows c.join.new.store.rows) same_local (subst (λ bytes. JoinsFirstRows (side c.ask.new.store) bytes c.join.new.store.rows) c.deref-3.ensures.value j))))) c.join.ensures.refused
+    (subst (λ s. JoinsFirstRows s rows c.join.new.store.rows) same_local
+    (subst (λ bytes. JoinsFirstRows (side c.ask.new.store) bytes c.join.new.store.rows) c.deref-3.ensures.value j))))) c.join.ensures.refused

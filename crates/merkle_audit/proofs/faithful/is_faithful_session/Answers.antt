@@ -8,7 +8,8 @@ pub returns-clause-told : goal.returns-clause-told
 returns-clause-told g c =
     let nodes = c.in_ok-have_faithful_nodes.ensures in
     IfOk-weaker c.are_faithful.result _ _ (λ is told yes. record {
-      faithful = as_before c.args.local.now c.args.peer.now c.args.local.now c.have_faithful_nodes.new.peer refl (refl, refl, refl) nodes.rows nodes.settings (IsFaithful g.H.RowHasher.laws) (told yes);
+      faithful = as_before c.args.local.now c.args.peer.now c.args.local.now c.have_faithful_nodes.new.peer refl (refl, refl, refl) nodes.rows nodes.settings
+          (IsFaithful g.H.RowHasher.laws) (told yes);
       nodes = nodes.told c.if-not-branch.false;
       values = c.digest_their_values_alike.ensures.0 c.if-not-digest_their_values_alike.false;
     }) c.are_faithful.ensures.told

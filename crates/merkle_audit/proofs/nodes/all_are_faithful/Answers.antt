@@ -33,7 +33,8 @@ pub levels-init : goal.levels-init
 levels-init g c =
     let tree = c.args.peer.now.tree in
     let sound : IsSound g.K.Ord.cmp g.H.Hasher-1.digest_of g.K.KeyBytes.bytes_of tree = rw c.tree.ensures.tree at c.every_tree_is_sound.ensures.sound in
-    subst (AreCovered g.H.RowHasher.laws (side c.args.local.now) tree) (sym (ap gaps_of (c.in_ok-push.ensures.items ∙ ap (λ gs. gs ++ c.everywhere.result ∷ []) c.new-gaps.ensures.items) ∙ ap (λ h. h ∷ []) c.everywhere.ensures))
+    subst (AreCovered g.H.RowHasher.laws (side c.args.local.now) tree)
+    (sym (ap gaps_of (c.in_ok-push.ensures.items ∙ ap (λ gs. gs ++ c.everywhere.result ∷ []) c.new-gaps.ensures.items) ∙ ap (λ h. h ∷ []) c.everywhere.ensures))
     (all_covered g.H.RowHasher.laws (side c.args.local.now) tree (level_in g tree) sound.canonical)
 
 pub returns-then-is_empty : goal.returns-then-is_empty

@@ -51,7 +51,8 @@ items-preserved g c =
                 (subst (Holds w.write.new.self zero_key) (bytes_more ds own w.as_bytes.result.now w.as_bytes.ensures) (w.write.ensures zero_key (flat_map (λ e. e) ds) c.items.invariant.2)),
             subst (λ s. Holds s zero_key (flat_map (λ e. e) (map (λ n. n.1) (nodes_among all)))) (sym w.theirs-is)
                 (subst (Holds w.write-in-Some.new.self zero_key)
-                (bytes_more (map (λ n. n.1) nodes) d w.as_bytes-in-Some.result.now w.as_bytes-in-Some.ensures ∙ ap (flat_map (λ e. e)) (sym (map-append (λ n. n.1) nodes ((k, d) ∷ [])) ∙ ap (map (λ n. n.1)) (sym now))) theirs),
+                (bytes_more (map (λ n. n.1) nodes) d w.as_bytes-in-Some.result.now w.as_bytes-in-Some.ensures
+                ∙ ap (flat_map (λ e. e)) (sym (map-append (λ n. n.1) nodes ((k, d) ∷ [])) ∙ ap (map (λ n. n.1)) (sym now))) theirs),
           ))
       | in_default w ↦ (let now : nodes_among all ≡ nodes = more ∙ ap (λ y. nodes ++ nodes_among (item y ∷ [])) w.in_default.is ∙ append-nil nodes in (
         ds,
@@ -69,10 +70,12 @@ returns g c = rw g.met.H.RowHasher.laws_are (λ t ds own same.
     let list = c.args.list.now in
     let all = take_all c.items.item-index list c.items-test.false in
     let first = c.items.invariant.0 in
-    let here : map at (keys_among (nodes_among (items list))) ≡ map Some first = sym (ap (λ xs. map at (keys_among (nodes_among (items xs)))) all) ∙ (rw g.met.H.RowHasher.laws_are at c.items.invariant.1) in
+    let here : map at (keys_among (nodes_among (items list))) ≡ map Some first = sym (ap (λ xs. map at (keys_among (nodes_among (items xs)))) all)
+    ∙ (rw g.met.H.RowHasher.laws_are at c.items.invariant.1) in
     let is : first ≡ ds = some_tell first ds (sym here ∙ own) in
     let ours : c.finish128.result ≡ digest_of_all first = c.finish128.ensures zero_key (flat_map (λ e. e) first) c.items.invariant.2 in
     let theirs : c.finish128-2.result ≡ nodes_digest (nodes_among (items list)) =
-    c.finish128-2.ensures zero_key (flat_map (λ e. e) (map (λ n. n.1) (nodes_among (items (take c.items.item-index list))))) c.items.invariant.3 ∙ ap (λ xs. nodes_digest (nodes_among (items xs))) all in
+    c.finish128-2.ensures zero_key (flat_map (λ e. e) (map (λ n. n.1) (nodes_among (items (take c.items.item-index list))))) c.items.invariant.3
+    ∙ ap (λ xs. nodes_digest (nodes_among (items xs))) all in
     let equal : c.finish128.result ≡ c.finish128-2.result = ours ∙ ap digest_of_all is ∙ same ∙ sym theirs in
     true≢false (sym t ∙ c.ne.ensures ∙ ap not ((bytes_decides c.finish128.result c.finish128-2.result).1 equal)))

@@ -12,7 +12,8 @@ returns-clause-upto g c =
     let rows = c.args.rows.now in
     let parted = IsPartitionPoint-from_clause (λ row. not (below cmp bound row.0)) rows c.partition_point.result c.partition_point.ensures.partitioned
     (falls_behind cmp g.met.K.Ord.total (Some bound) rows c.requires) (λ a r f called. (search rules, search rules)) in
-    taken_each (λ row. not (below cmp bound row.0) ≡ true) (λ row. Upto cmp row.0 bound) (λ row p. not_below cmp g.met.K.Ord.total bound row.0 (not_true (below cmp bound row.0) p)) rows c.partition_point.result c.partition_point.ensures.bound parted.0
+    taken_each (λ row. not (below cmp bound row.0) ≡ true) (λ row. Upto cmp row.0 bound)
+    (λ row p. not_below cmp g.met.K.Ord.total bound row.0 (not_true (below cmp bound row.0) p)) rows c.partition_point.result c.partition_point.ensures.bound parted.0
 
 pub returns-clause-above : goal.returns-clause-above
 returns-clause-above g c =

@@ -15,7 +15,8 @@ rows-preserved g c =
     let h = g.H.Hasher-2.digest_of c.args.b.now.tree.hasher in
     let first : c.rows.i < length c.args.ours.now = omega arith in
     let second : c.rows.i < length c.args.theirs.now = omega arith in
-    alike_more g.K.Ord.cmp f h c.args.ours.now c.args.theirs.now c.rows.i c.index-ours-i.result c.index-theirs-i.result first second c.index-ours-i.is c.index-theirs-i.is c.rows.invariant (c.are_alike.ensures.0 c.if-not-are_alike.false)
+    alike_more g.K.Ord.cmp f h c.args.ours.now c.args.theirs.now c.rows.i c.index-ours-i.result c.index-theirs-i.result first second c.index-ours-i.is c.index-theirs-i.is
+    c.rows.invariant (c.are_alike.ensures.0 c.if-not-are_alike.false)
 
 pub returns-then-not-are_alike : goal.returns-then-not-are_alike
 returns-then-not-are_alike g c =
@@ -23,7 +24,8 @@ returns-then-not-are_alike g c =
     let h = g.H.Hasher-2.digest_of c.args.b.now.tree.hasher in
     let first : c.rows.i < length c.args.ours.now = omega arith in (
       λ t. absurd (false≢true t),
-      λ all. absurd (false≢true (sym c.if-not-are_alike.true ∙ c.are_alike.ensures.1 (alike_there g.K.Ord.cmp f h c.args.ours.now c.args.theirs.now c.rows.i c.index-ours-i.result c.index-theirs-i.result first c.index-ours-i.is c.index-theirs-i.is all))),
+      λ all. absurd (false≢true (sym c.if-not-are_alike.true ∙ c.are_alike.ensures.1
+          (alike_there g.K.Ord.cmp f h c.args.ours.now c.args.theirs.now c.rows.i c.index-ours-i.result c.index-theirs-i.result first c.index-ours-i.is c.index-theirs-i.is all))),
     )
 
 pub returns : goal.returns

@@ -12,7 +12,8 @@ pages-preserved g c =
 pub returns-then-is_digest : goal.returns-then-is_digest
 returns-then-is_digest g c = (
   λ t. absurd (false≢true t),
-  λ none. absurd (each_there (λ e. c.args.digest.now ≡ e.digest → ⊥) entry c.args.ranges.now c.pages.range-index c.range-item.result c.pages-test.true c.range-item.is none (c.is_digest.ensures.0 c.if-is_digest.true)),
+  λ none. absurd (each_there (λ e. c.args.digest.now ≡ e.digest → ⊥) entry c.args.ranges.now c.pages.range-index c.range-item.result c.pages-test.true c.range-item.is
+      none (c.is_digest.ensures.0 c.if-is_digest.true)),
 )
 
 pub returns : goal.returns

@@ -21,4 +21,5 @@ returns g c =
     let from = subst (λ k. AllByRecursion (λ r. Upto cmp k r.0) (drop c.count_below-first.result rows)) c.start.ensures c.count_below-first.ensures.behind in
     let upto = subst (λ k. AllByRecursion (λ r. Upto cmp r.0 k) (take c.count_upto-count.result behind)) c.end.ensures c.count_upto-count.ensures.upto in
     let high = subst (λ k. AllByRecursion (λ r. Below cmp k r.0) (drop c.count_upto-count.result behind)) c.end.ensures c.count_upto-count.ensures.above in
-    c.split_at-2.ensures.front ∙ between_bounds cmp g.met.K.Ord.total (span_of (entry c.args.range.now)) rows behind c.count_below-first.result c.count_upto-count.result c.split_at.ensures.back low from upto high
+    c.split_at-2.ensures.front ∙ between_bounds cmp g.met.K.Ord.total (span_of (entry c.args.range.now)) rows behind c.count_below-first.result c.count_upto-count.result
+    c.split_at.ensures.back low from upto high

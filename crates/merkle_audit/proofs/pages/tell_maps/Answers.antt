@@ -14,7 +14,8 @@ pub returns-then-not-tells_maps : goal.returns-then-not-tells_maps
 returns-then-not-tells_maps g c =
     let tells = TellsMaps g.K.Ord.cmp g.H.Hasher-2.digest_of c.args.a.now c.args.b.now (entries c.args.theirs.now) in (
       λ t. absurd (false≢true t),
-      λ all. absurd (false≢true (sym c.if-not-tells_maps.true ∙ c.tells_maps.ensures.1 (each_there tells entry c.args.ours.now c.pages.range-index c.range-item.result c.pages-test.true c.range-item.is all))),
+      λ all. absurd (false≢true (sym c.if-not-tells_maps.true ∙ c.tells_maps.ensures.1
+          (each_there tells entry c.args.ours.now c.pages.range-index c.range-item.result c.pages-test.true c.range-item.is all))),
     )
 
 pub returns : goal.returns

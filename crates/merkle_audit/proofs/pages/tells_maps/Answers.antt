@@ -14,7 +14,8 @@ pub returns-then-not-tells_map : goal.returns-then-not-tells_map
 returns-then-not-tells_map g c =
     let tells = TellsMap g.K.Ord.cmp g.H.Hasher-2.digest_of c.args.a.now c.args.b.now (entry c.args.range.now) in (
       λ t. absurd (false≢true t),
-      λ all. absurd (false≢true (sym c.if-not-tells_map.true ∙ c.tells_map.ensures.1 (each_there tells entry c.args.theirs.now c.others.other-index c.other-item.result c.others-test.true c.other-item.is all))),
+      λ all. absurd (false≢true (sym c.if-not-tells_map.true ∙ c.tells_map.ensures.1
+          (each_there tells entry c.args.theirs.now c.others.other-index c.other-item.result c.others-test.true c.other-item.is all))),
     )
 
 pub returns : goal.returns

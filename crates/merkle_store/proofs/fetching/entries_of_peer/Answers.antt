@@ -32,13 +32,16 @@ pub returns-in-Came-clause-came : goal.returns-in-Came-clause-came
 returns-in-Came-clause-came g c =
     let inv = c.messages.invariant in
     let local = c.args.replica.now in
-    let taken = subst (λ n. IsNext entry_laws 16 key_encoding register_encoding (side c.messages.replica) c.messages.session c.deref-in-Reply.result.now n) c.in-Came.is c.in_ok-next-in-Reply.ensures.next in
+    let taken = subst (λ n. IsNext entry_laws 16 key_encoding register_encoding (side c.messages.replica) c.messages.session c.deref-in-Reply.result.now n) c.in-Came.is
+    c.in_ok-next-in-Reply.ensures.next in
     let of_reply = subst (λ r. IsNext entry_laws 16 key_encoding register_encoding (side c.messages.replica) c.messages.session r (Came c.in-Came.entries)) c.deref-in-Reply.ensures.value taken in
     comes_to local c.args.terms.now.most_bytes (g.W.Write.contents c.args.to.now, g.R.Read.remaining c.args.from.now) (g.W.Write.contents c.messages.to, g.R.Read.remaining c.messages.from)
     (g.W.Write.contents c.ask.new.to, g.R.Read.remaining c.ask.new.from) c.messages.session c.messages.deltas c.messages.message c.in_ok-reply.reply.items inv.come
-    (subst (λ m. Appends (g.W.Write.contents c.messages.to) (g.W.Write.contents c.ask.new.to) (frame_of m)) c.deref.ensures.value c.in_ok-reply.ensures.sent) c.in_ok-reply.ensures.came c.in_ok-reply.ensures.fits
+    (subst (λ m. Appends (g.W.Write.contents c.messages.to) (g.W.Write.contents c.ask.new.to) (frame_of m)) c.deref.ensures.value c.in_ok-reply.ensures.sent)
+    c.in_ok-reply.ensures.came c.in_ok-reply.ensures.fits
     c.in-Reply.plain c.in-Came.entries (subst (IsHeard c.messages.deltas c.in_ok-reply.reply.items) c.in-Reply.is c.in_ok-question.ensures.heard)
-    (subst (λ s. IsNext entry_laws 16 key_encoding register_encoding s c.messages.session c.in-Reply.plain.items (Came c.in-Came.entries)) (same_side local c.messages.replica inv.rows inv.settings) of_reply)
+    (subst (λ s. IsNext entry_laws 16 key_encoding register_encoding s c.messages.session c.in-Reply.plain.items (Came c.in-Came.entries))
+    (same_side local c.messages.replica inv.rows inv.settings) of_reply)
 
 pub messages-preserved : goal.messages-preserved
 messages-preserved g c =
@@ -59,12 +62,15 @@ messages-preserved g c =
       })
       | in-Reply+in_ok-next-in-Reply+in-Ask+in_ok-message-in-Ask w ↦
           let next = Ask w.in-Ask.next w.in-Ask.question in
-          let taken = subst (λ n. IsNext entry_laws 16 key_encoding register_encoding (side c.messages.replica) c.messages.session w.deref-in-Reply.result.now n) w.in-Ask.is w.in_ok-next-in-Reply.ensures.next in
+          let taken = subst (λ n. IsNext entry_laws 16 key_encoding register_encoding (side c.messages.replica) c.messages.session w.deref-in-Reply.result.now n)
+          w.in-Ask.is w.in_ok-next-in-Reply.ensures.next in
           let of_reply = subst (λ r. IsNext entry_laws 16 key_encoding register_encoding (side c.messages.replica) c.messages.session r next) w.deref-in-Reply.ensures.value taken in
-          let is = subst (λ s. IsNext entry_laws 16 key_encoding register_encoding s c.messages.session w.in-Reply.plain.items next) (same_side local c.messages.replica inv.rows inv.settings) of_reply in
+          let is = subst (λ s. IsNext entry_laws 16 key_encoding register_encoding s c.messages.session w.in-Reply.plain.items next)
+          (same_side local c.messages.replica inv.rows inv.settings) of_reply in
           rw (w.replica-is, w.session-is, w.message-is, w.deltas-is) (record {
             come = goes_on local most before mid after c.messages.session c.messages.deltas c.messages.message reply inv.come sent c.in_ok-reply.ensures.came c.in_ok-reply.ensures.fits
-                w.in-Reply.plain w.in-Ask.next w.in-Ask.question _ w.in_ok-message-in-Ask.message (subst (IsHeard c.messages.deltas reply) w.in-Reply.is c.in_ok-question.ensures.heard) is w.in_ok-message-in-Ask.ensures.sent;
+                w.in-Reply.plain w.in-Ask.next w.in-Ask.question _ w.in_ok-message-in-Ask.message
+                (subst (IsHeard c.messages.deltas reply) w.in-Reply.is c.in_ok-question.ensures.heard) is w.in_ok-message-in-Ask.ensures.sent;
             rows = w.message_for.ensures.rows ∙ (w.take.ensures.rows ∙ inv.rows);
             settings = (
               w.message_for.ensures.settings.0 ∙ (w.take.ensures.settings.0 ∙ inv.settings.0),

@@ -8,5 +8,6 @@ use Rattle.merkle_store.proofs.rows.read_replica.Goals as goal
 
 pub returns-clause-kept : goal.returns-clause-kept
 returns-clause-kept g c clean =
-    if_ok c.replica_of.result _ _ (λ replica puts writer hash_key about. kept_read _ laws-law _ joining-law string_cmp_total writer hash_key (trees_of g.S.Store c.args.log.now) c.in_ok-entries.entries.items replica.rows about (c.in_ok-entries.ensures.held clean) puts)
+    if_ok c.replica_of.result _ _ (λ replica puts writer hash_key about. kept_read _ laws-law _ joining-law string_cmp_total writer hash_key
+    (trees_of g.S.Store c.args.log.now) c.in_ok-entries.entries.items replica.rows about (c.in_ok-entries.ensures.held clean) puts)
     c.replica_of.ensures.puts

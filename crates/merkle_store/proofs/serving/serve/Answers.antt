@@ -8,7 +8,7 @@ use Rattle.merkle_replica.specs.Contents.{tree_map}
 use Rattle.merkle_tree_theory.specs.Canonical.{IsCanonicalRoot, IsTreeOf}
 use Rattle.merkle_tree_theory.specs.State.{SameSettings}
 use Rattle.store_table.specs.WireRegisters.{register_encoding}
-use Rattle.merkle_store.specs.Exchanges.{IsAnswered, IsReplyBy}
+use Rattle.merkle_store.specs.Exchanges.{IsAnswered, IsToldReply}
 use Rattle.merkle_store.specs.Framing.{HasCome, frame_of}
 use Rattle.merkle_store.specs.Sessions.{entry_laws, key_encoding}
 use Rattle.merkle_store.proofs.Exchanged.{has_served_more}
@@ -26,7 +26,7 @@ messages-preserved g c =
     let rows : after.rows ≡ replica.rows = new.rows ∙ inv.rows in
     let settings : SameSettings replica.tree after.tree = (new.settings.0 ∙ inv.settings.0, new.settings.1 ∙ inv.settings.1, new.settings.2 ∙ inv.settings.2) in
     let canonical = subst (λ t. IsCanonicalRoot (λ k. level_of (text_digest t.hasher k) t.base) t.root) c.tree.ensures.tree c.every_tree_is_sound.ensures.sound.canonical in
-    let replies : IsReplyBy entry_laws 16 key_encoding register_encoding replica message reply = record {
+    let replies : IsToldReply entry_laws 16 key_encoding register_encoding replica message reply = record {
       before = before;
       after = after;
       rows = (inv.rows, rows);

@@ -1,17 +1,25 @@
+use Rattle.std.proofs.Common.{subst, sym}
 use Rattle.std.proofs.lemmas.Result.{IfErr-weaker, IfOk-weaker}
 use Rattle.merkle_wire.specs.Faults.{IsUnread, OfMessage}
 use Rattle.merkle_wire.specs.Questions.{AsksNothing}
-use Rattle.merkle_wire.specs.Replies.{EndsWithin, IsAnsweredOf, IsAnsweredWithin, IsReplyBy, RefusesOthers, RefusesQuestionOfOthers}
+use Rattle.merkle_wire.specs.Replies.{EndsWithin, IsAnsweredBy, IsAnsweredWithin, IsReplyBy, RefusesOthers, RefusesQuestionOfOthers}
 use Rattle.merkle_wire.proofs.OfMessages.{of_message_weaker}
 use Rattle.merkle_wire.proofs.answering.answer_by.Goals as goal
 
 pub returns-in-Ok-clause-answered : goal.returns-in-Ok-clause-answered
 returns-in-Ok-clause-answered g c =
-    let rows = g.R.KeptRows.rows c.args.rows.now in
-    let tree = c.root_hash_counted.new.self in
-    IfOk-weaker c.reply_to.result (IsReplyBy g.H.RowHasher.laws g.row.N g.K.Encode.encoding g.V.Encode.encoding rows tree c.in-Ok.question)
-    (IsAnsweredOf g.H.RowHasher.laws g.row.N g.K.Encode.encoding g.V.Encode.encoding rows tree c.args.message.now)
-    (λ reply is. (c.in-Ok.question, c.in-Ok.ensures.asks, is)) c.reply_to.ensures.reply
+    let by = IsReplyBy g.H.RowHasher.laws g.row.N g.K.Encode.encoding g.V.Encode.encoding in
+    let question = c.in-Ok.question in
+    let before = g.S.KeptSide.contents c.args.side.now c.args.beside.now in
+    let hashed = g.S.KeptSide.contents c.hash.new.self c.args.beside.now in
+    let after = g.S.KeptSide.contents c.reply_to.new.side c.args.beside.now in
+    IfOk-weaker c.reply_to.result (by hashed.rows hashed.tree question)
+    (IsAnsweredBy g.H.RowHasher.laws g.row.N g.K.Encode.encoding g.V.Encode.encoding before after c.args.message.now)
+    (λ reply is. (
+      question,
+      c.in-Ok.ensures.asks,
+      subst (λ rows. by rows after.tree question reply) c.hash.ensures.rows (subst (λ side. by hashed.rows side.tree question reply) (sym c.reply_to.ensures.kept) is),
+    )) c.reply_to.ensures.reply
 
 pub returns-in-Ok-clause-within : goal.returns-in-Ok-clause-within
 returns-in-Ok-clause-within g c =
@@ -27,8 +35,10 @@ returns-in-Ok-clause-malformed g c =
 
 pub returns-in-Ok-clause-other_settings : goal.returns-in-Ok-clause-other_settings
 returns-in-Ok-clause-other_settings g c =
-    let laws = g.H.RowHasher.laws in
-    let tree = c.root_hash_counted.new.self in
-    IfErr-weaker c.reply_to.result (OfMessage (RefusesQuestionOfOthers laws g.row.N tree c.in-Ok.question)) (OfMessage (RefusesOthers laws g.row.N g.K.Encode.encoding tree c.args.message.now))
-    (λ fault. of_message_weaker (RefusesQuestionOfOthers laws g.row.N tree c.in-Ok.question) (RefusesOthers laws g.row.N g.K.Encode.encoding tree c.args.message.now)
-    (λ error refuses others. (c.in-Ok.question, c.in-Ok.ensures.asks, refuses others)) fault) c.reply_to.ensures.others
+    let refuses = RefusesQuestionOfOthers g.H.RowHasher.laws g.row.N in
+    let hashed = g.S.KeptSide.contents c.hash.new.self c.args.beside.now in
+    let after = g.S.KeptSide.contents c.reply_to.new.side c.args.beside.now in
+    let others = RefusesOthers g.H.RowHasher.laws g.row.N g.K.Encode.encoding after.tree c.args.message.now in
+    IfErr-weaker c.reply_to.result (OfMessage (refuses hashed.tree c.in-Ok.question)) (OfMessage others)
+    (λ fault. of_message_weaker (refuses hashed.tree c.in-Ok.question) others
+    (λ error no of. (c.in-Ok.question, c.in-Ok.ensures.asks, subst (λ side. refuses side.tree c.in-Ok.question error) (sym c.reply_to.ensures.kept) no of)) fault) c.reply_to.ensures.others

@@ -38,7 +38,8 @@ keys-preserved g c =
       left = given.0;
       count = given.1;
       of = ap keys_among more ∙ map-append _ old (node ∷ []) ∙ ap (λ ks. ks ++ w.key ∷ []) kept.of ∙ sym (map-append _ c.keys.yielded (w ∷ []));
-      read = kept.read ∙ ap (λ t. flat_map (λ n. n.1) old ++ t) (c.in_ok-digest.ensures.read ∙ ap (λ b. b ++ left) (sym (append-nil digest.now))) ∙ sym (append_assoc (flat_map (λ n. n.1) old) (digest.now ++ []) left)
+      read = kept.read ∙ ap (λ t. flat_map (λ n. n.1) old ++ t) (c.in_ok-digest.ensures.read ∙ ap (λ b. b ++ left) (sym (append-nil digest.now)))
+          ∙ sym (append_assoc (flat_map (λ n. n.1) old) (digest.now ++ []) left)
           ∙ ap (λ t. t ++ left) (sym (flat_map-append _ old (node ∷ [])) ∙ ap (flat_map (λ n. n.1)) (sym more));
       lengths = subst (AllByRecursion (λ d. length d.1 ≡ c.args.digest_bytes)) (sym more) (each-append _ old (node ∷ []) kept.lengths (c.in_ok-digest.ensures.len, tt));
     }
@@ -58,5 +59,14 @@ returns-in_err-digest-clause-refused g c =
     rw (p.1, p.2) (refused_unread _ c.in_err-digest.field-0.0 (λ malformed.
     no_digests c.args.digest_bytes (length c.args.keys.items) c.args.reader.now.left.now c.keys.reader.left.now (map (λ d. d.1) nodes)
     (kept.read ∙ ap (λ t. t ++ c.keys.reader.left.now) (flat_digests nodes)) (each_digest c.args.digest_bytes nodes kept.lengths)
-    (omega (arith, length-map nodes (λ d. d.1), length-map nodes (λ d. d.0), length-map c.keys.yielded (λ w. w.key), ap length kept.of, ap length kept.left, short, length-append c.keys.yielded (into_iter_items c.keys.wanted-iterator)))
+    (omega (
+      arith,
+      length-map nodes (λ d. d.1),
+      length-map nodes (λ d. d.0),
+      length-map c.keys.yielded (λ w. w.key),
+      ap length kept.of,
+      ap length kept.left,
+      short,
+      length-append c.keys.yielded (into_iter_items c.keys.wanted-iterator),
+    ))
     (c.in_err-digest.ensures.malformed malformed)))

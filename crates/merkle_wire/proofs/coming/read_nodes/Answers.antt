@@ -28,12 +28,16 @@ pub returns-in_err-keys-clause-refused : goal.returns-in_err-keys-clause-refused
 returns-in_err-keys-clause-refused g c =
     let p = err_from_is_err_and c.from_residual.result c.from_residual.ensures.1 in
     rw (p.1, p.2) (refused_unread _ c.in_err-keys.field-0.0 (λ malformed.
-    no_nodes g.K.Ord.cmp g.met.K.Ord.total g.K.Encode.encoding (key_tells g.K.Ord.cmp g.K.Encode.encoding g.K.PartialEq.eq g.met.K.Ord.matches_eq g.met.K.Decode.told) g.K.Decode.is_value c.args.digest_bytes c.args.run.now c.args.gap.now c.args.reader.now.left.now (no_keys g.K.Encode.encoding g.K.Decode.is_value c.args.run.now c.args.reader.now.left.now (c.in_err-keys.ensures.malformed malformed))))
+    no_nodes g.K.Ord.cmp g.met.K.Ord.total g.K.Encode.encoding (key_tells g.K.Ord.cmp g.K.Encode.encoding g.K.PartialEq.eq g.met.K.Ord.matches_eq g.met.K.Decode.told)
+    g.K.Decode.is_value c.args.digest_bytes c.args.run.now c.args.gap.now c.args.reader.now.left.now
+    (no_keys g.K.Encode.encoding g.K.Decode.is_value c.args.run.now c.args.reader.now.left.now (c.in_err-keys.ensures.malformed malformed))))
 
 pub returns-then-not-keys_lie_in-clause-refused : goal.returns-then-not-keys_lie_in-clause-refused
 returns-then-not-keys_lie_in-clause-refused g c =
     let behind = c.decode_run.new.reader.left.now in
-    no_nodes-outside g.K.Ord.cmp g.met.K.Ord.total g.K.Encode.encoding (key_tells g.K.Ord.cmp g.K.Encode.encoding g.K.PartialEq.eq g.met.K.Ord.matches_eq g.met.K.Decode.told) g.K.Decode.is_value c.args.digest_bytes c.args.run.now c.args.gap.now c.args.reader.now.left.now
+    no_nodes-outside g.K.Ord.cmp g.met.K.Ord.total g.K.Encode.encoding
+    (key_tells g.K.Ord.cmp g.K.Encode.encoding g.K.PartialEq.eq g.met.K.Ord.matches_eq g.met.K.Decode.told) g.K.Decode.is_value c.args.digest_bytes c.args.run.now
+    c.args.gap.now c.args.reader.now.left.now
     (map (λ w. w.key) c.in_ok-keys.keys.items) behind (c.in_ok-keys.ensures.read ∙ ap (λ t. t ++ behind) (told_as_keys g.K.Encode.encoding c.args.run.now c.in_ok-keys.keys.items))
     (rw c.deref.ensures.value at (c.keys_lie_in.ensures.outside c.if-not-keys_lie_in.true))
 
@@ -42,6 +46,8 @@ returns-in_err-nodes-clause-refused g c =
     let p = err_from_is_err_and c.from_residual-in_err-nodes.result c.from_residual-in_err-nodes.ensures.1 in
     let behind = c.decode_run.new.reader.left.now in
     rw (p.1, p.2) (refused_for _ _ c.in_err-nodes.field-0.0 (λ none.
-    no_nodes-digests g.K.Ord.cmp g.met.K.Ord.total g.K.Encode.encoding (key_tells g.K.Ord.cmp g.K.Encode.encoding g.K.PartialEq.eq g.met.K.Ord.matches_eq g.met.K.Decode.told) g.K.Decode.is_value c.args.digest_bytes c.args.run.now c.args.gap.now c.args.reader.now.left.now
+    no_nodes-digests g.K.Ord.cmp g.met.K.Ord.total g.K.Encode.encoding
+    (key_tells g.K.Ord.cmp g.K.Encode.encoding g.K.PartialEq.eq g.met.K.Ord.matches_eq g.met.K.Decode.told) g.K.Decode.is_value c.args.digest_bytes c.args.run.now
+    c.args.gap.now c.args.reader.now.left.now
     (map (λ w. w.key) c.in_ok-keys.keys.items) behind (c.in_ok-keys.ensures.read ∙ ap (λ t. t ++ behind) (told_as_keys g.K.Encode.encoding c.args.run.now c.in_ok-keys.keys.items))
     (subst (λ n. NoDigests c.args.digest_bytes n behind) (sym (length-map c.in_ok-keys.keys.items (λ w. w.key))) none)) c.in_err-nodes.ensures.refused)

@@ -14,22 +14,26 @@ use Rattle.merkle_wire.proofs.coming.read_outline.Goals as goal
 pub returns-then-kind-eq0-clause-read : goal.returns-then-kind-eq0-clause-read
 returns-then-kind-eq0-clause-read g c =
     let last = bound_key g.K.Encode.encoding [] in
-    kind_and_rest c.in_ok-kind.field-0 0 (λ run. run_bytes (row_behind g.K.Encode.encoding g.V.Encode.encoding) (row_key g.K.Encode.encoding) run c.in_ok-rows.rows.items) (last c.args.gap.now.after) c.in_ok-run.run'
-    c.args.reader.now.left.now c.array.new.self.left.now c.read_rows.new.reader.left.now c.in_ok-kind.ensures.read c.in_ok-kind.ensures.len c.if-kind-eq0.true c.in_ok-rows.ensures.read (c.in_ok-run.ensures ∙ ap last c.as_ref.ensures.value)
+    kind_and_rest c.in_ok-kind.field-0 0 (λ run. run_bytes (row_behind g.K.Encode.encoding g.V.Encode.encoding) (row_key g.K.Encode.encoding) run c.in_ok-rows.rows.items)
+    (last c.args.gap.now.after) c.in_ok-run.run'
+    c.args.reader.now.left.now c.array.new.self.left.now c.read_rows.new.reader.left.now c.in_ok-kind.ensures.read c.in_ok-kind.ensures.len c.if-kind-eq0.true
+    c.in_ok-rows.ensures.read (c.in_ok-run.ensures ∙ ap last c.as_ref.ensures.value)
 
 pub returns-then-kind-eq1-clause-read : goal.returns-then-kind-eq1-clause-read
 returns-then-kind-eq1-clause-read g c =
     let last = bound_key g.K.Encode.encoding [] in
     let nodes = nodes_read c.in_ok-nodes.nodes.items in
     kind_and_rest c.in_ok-kind.field-0 1 (λ run. keys_told g.K.Encode.encoding run (keys_among nodes) ++ flat_map (λ n. n.1) nodes) (last c.args.gap.now.after) c.in_ok-run.run'
-    c.args.reader.now.left.now c.array.new.self.left.now c.read_nodes.new.reader.left.now c.in_ok-kind.ensures.read c.in_ok-kind.ensures.len c.if-kind-eq1.true c.in_ok-nodes.ensures.read (c.in_ok-run.ensures ∙ ap last c.as_ref.ensures.value)
+    c.args.reader.now.left.now c.array.new.self.left.now c.read_nodes.new.reader.left.now c.in_ok-kind.ensures.read c.in_ok-kind.ensures.len c.if-kind-eq1.true
+    c.in_ok-nodes.ensures.read (c.in_ok-run.ensures ∙ ap last c.as_ref.ensures.value)
 
 pub returns-then-with_pages-clause-read : goal.returns-then-with_pages-clause-read
 returns-then-with_pages-clause-read g c =
     let last = bound_key g.K.Encode.encoding [] in
     let page = c.in_ok-page.page in
     kind_and_rest c.in_ok-kind.field-0 2 (λ run. page.digest ++ (keys_told g.K.Encode.encoding run (page_keys page) ++ pages_bytes (page_digests page))) (last c.args.gap.now.after) c.in_ok-run.run'
-    c.args.reader.now.left.now c.array.new.self.left.now c.read_page.new.reader.left.now c.in_ok-kind.ensures.read c.in_ok-kind.ensures.len c.if-kind-eq2.true c.in_ok-page.ensures.read (c.in_ok-run.ensures ∙ ap last c.as_ref.ensures.value)
+    c.args.reader.now.left.now c.array.new.self.left.now c.read_page.new.reader.left.now c.in_ok-kind.ensures.read c.in_ok-kind.ensures.len c.if-kind-eq2.true
+    c.in_ok-page.ensures.read (c.in_ok-run.ensures ∙ ap last c.as_ref.ensures.value)
 
 pub returns-then-with_pages-clause-lies : goal.returns-then-with_pages-clause-lies
 returns-then-with_pages-clause-lies g c =
@@ -41,7 +45,8 @@ pub returns-in_err-kind-clause-refused : goal.returns-in_err-kind-clause-refused
 returns-in_err-kind-clause-refused g c =
     let p = err_from_is_err_and c.from_residual-in_err-kind.result c.from_residual-in_err-kind.ensures.1 in
     rw (p.1, p.2) (refused_unread _ c.in_err-kind.field-0.0 (λ malformed.
-    no_outline-none g.K.Ord.cmp g.met.K.Ord.total g.V.PartialEq.eq g.K.Encode.encoding g.V.Encode.encoding (key_tells g.K.Ord.cmp g.K.Encode.encoding g.K.PartialEq.eq g.met.K.Ord.matches_eq g.met.K.Decode.told) g.met.V.Decode.told g.K.Decode.is_value g.V.Decode.is_value
+    no_outline-none g.K.Ord.cmp g.met.K.Ord.total g.V.PartialEq.eq g.K.Encode.encoding g.V.Encode.encoding
+    (key_tells g.K.Ord.cmp g.K.Encode.encoding g.K.PartialEq.eq g.met.K.Ord.matches_eq g.met.K.Decode.told) g.met.V.Decode.told g.K.Decode.is_value g.V.Decode.is_value
     c.args.digest_bytes c.args.with_pages c.args.gap.now c.args.reader.now.left.now (c.in_err-kind.ensures.malformed malformed)))
 
 pub returns-in_err-rows-clause-refused : goal.returns-in_err-rows-clause-refused
@@ -50,10 +55,12 @@ returns-in_err-rows-clause-refused g c =
     let kind = c.in_ok-kind in
     let last = bound_key g.K.Encode.encoding [] in
     rw (p.1, p.2) (refused_for _ _ c.in_err-rows.field-0.0 (λ none.
-    no_outline g.K.Ord.cmp g.met.K.Ord.total g.V.PartialEq.eq g.K.Encode.encoding g.V.Encode.encoding (key_tells g.K.Ord.cmp g.K.Encode.encoding g.K.PartialEq.eq g.met.K.Ord.matches_eq g.met.K.Decode.told) g.met.V.Decode.told g.K.Decode.is_value g.V.Decode.is_value
+    no_outline g.K.Ord.cmp g.met.K.Ord.total g.V.PartialEq.eq g.K.Encode.encoding g.V.Encode.encoding
+    (key_tells g.K.Ord.cmp g.K.Encode.encoding g.K.PartialEq.eq g.met.K.Ord.matches_eq g.met.K.Decode.told) g.met.V.Decode.told g.K.Decode.is_value g.V.Decode.is_value
     c.args.digest_bytes c.args.with_pages c.args.gap.now c.args.reader.now.left.now (get_or kind.field-0 0 0) c.array.new.self.left.now
     (kind_read kind.field-0 c.args.reader.now.left.now c.array.new.self.left.now kind.ensures.read kind.ensures.len)
-    (λ zero. subst (λ run. NoRows g.K.Ord.cmp g.K.Decode.is_value g.V.Decode.is_value g.K.Encode.encoding g.V.Encode.encoding run c.args.gap.now c.array.new.self.left.now) (c.in_ok-run.ensures ∙ ap last c.as_ref.ensures.value) none)
+    (λ zero. subst (λ run. NoRows g.K.Ord.cmp g.K.Decode.is_value g.V.Decode.is_value g.K.Encode.encoding g.V.Encode.encoding run c.args.gap.now
+    c.array.new.self.left.now) (c.in_ok-run.ensures ∙ ap last c.as_ref.ensures.value) none)
     (λ one. absurd (omega (arith, c.if-kind-eq0.true, one))) (λ two with. absurd (omega (arith, c.if-kind-eq0.true, two)))) c.in_err-rows.ensures.refused)
 
 pub returns-in_err-nodes-clause-refused : goal.returns-in_err-nodes-clause-refused
@@ -62,11 +69,13 @@ returns-in_err-nodes-clause-refused g c =
     let kind = c.in_ok-kind in
     let last = bound_key g.K.Encode.encoding [] in
     rw (p.1, p.2) (refused_for _ _ c.in_err-nodes.field-0.0 (λ none.
-    no_outline g.K.Ord.cmp g.met.K.Ord.total g.V.PartialEq.eq g.K.Encode.encoding g.V.Encode.encoding (key_tells g.K.Ord.cmp g.K.Encode.encoding g.K.PartialEq.eq g.met.K.Ord.matches_eq g.met.K.Decode.told) g.met.V.Decode.told g.K.Decode.is_value g.V.Decode.is_value
+    no_outline g.K.Ord.cmp g.met.K.Ord.total g.V.PartialEq.eq g.K.Encode.encoding g.V.Encode.encoding
+    (key_tells g.K.Ord.cmp g.K.Encode.encoding g.K.PartialEq.eq g.met.K.Ord.matches_eq g.met.K.Decode.told) g.met.V.Decode.told g.K.Decode.is_value g.V.Decode.is_value
     c.args.digest_bytes c.args.with_pages c.args.gap.now c.args.reader.now.left.now (get_or kind.field-0 0 0) c.array.new.self.left.now
     (kind_read kind.field-0 c.args.reader.now.left.now c.array.new.self.left.now kind.ensures.read kind.ensures.len)
     (λ zero. absurd (omega (arith, c.if-kind-eq1.true, zero)))
-    (λ one. subst (λ run. NoNodes g.K.Ord.cmp g.K.Decode.is_value g.K.Encode.encoding c.args.digest_bytes run c.args.gap.now c.array.new.self.left.now) (c.in_ok-run.ensures ∙ ap last c.as_ref.ensures.value) none)
+    (λ one. subst (λ run. NoNodes g.K.Ord.cmp g.K.Decode.is_value g.K.Encode.encoding c.args.digest_bytes run c.args.gap.now c.array.new.self.left.now)
+    (c.in_ok-run.ensures ∙ ap last c.as_ref.ensures.value) none)
     (λ two with. absurd (omega (arith, c.if-kind-eq1.true, two)))) c.in_err-nodes.ensures.refused)
 
 pub returns-in_err-page-clause-refused : goal.returns-in_err-page-clause-refused
@@ -75,8 +84,10 @@ returns-in_err-page-clause-refused g c =
     let kind = c.in_ok-kind in
     let last = bound_key g.K.Encode.encoding [] in
     rw (p.1, p.2) (refused_for _ _ c.in_err-page.field-0.0 (λ none.
-    no_outline g.K.Ord.cmp g.met.K.Ord.total g.V.PartialEq.eq g.K.Encode.encoding g.V.Encode.encoding (key_tells g.K.Ord.cmp g.K.Encode.encoding g.K.PartialEq.eq g.met.K.Ord.matches_eq g.met.K.Decode.told) g.met.V.Decode.told g.K.Decode.is_value g.V.Decode.is_value
+    no_outline g.K.Ord.cmp g.met.K.Ord.total g.V.PartialEq.eq g.K.Encode.encoding g.V.Encode.encoding
+    (key_tells g.K.Ord.cmp g.K.Encode.encoding g.K.PartialEq.eq g.met.K.Ord.matches_eq g.met.K.Decode.told) g.met.V.Decode.told g.K.Decode.is_value g.V.Decode.is_value
     c.args.digest_bytes c.args.with_pages c.args.gap.now c.args.reader.now.left.now (get_or kind.field-0 0 0) c.array.new.self.left.now
     (kind_read kind.field-0 c.args.reader.now.left.now c.array.new.self.left.now kind.ensures.read kind.ensures.len)
     (λ zero. absurd (omega (arith, c.if-kind-eq2.true, zero))) (λ one. absurd (omega (arith, c.if-kind-eq2.true, one)))
-    (λ two with. subst (λ run. NoPage g.K.Ord.cmp g.K.Decode.is_value g.K.Encode.encoding run c.args.gap.now c.array.new.self.left.now) (c.in_ok-run.ensures ∙ ap last c.as_ref.ensures.value) none)) c.in_err-page.ensures.refused)
+    (λ two with. subst (λ run. NoPage g.K.Ord.cmp g.K.Decode.is_value g.K.Encode.encoding run c.args.gap.now c.array.new.self.left.now)
+    (c.in_ok-run.ensures ∙ ap last c.as_ref.ensures.value) none)) c.in_err-page.ensures.refused)

@@ -24,9 +24,11 @@ pub returns-clause-read : goal.returns-clause-read
 returns-clause-read g c =
     let written = keys_told g.K.Encode.encoding c.args.run.now in
     let came = c.in_ok-below in
-    three_read c.in_ok-digest.digest (written (map (λ b. b.1.key) came.below.items)) (pages_bytes (digests_beside came.below.items came.last)) c.args.reader.now.left.now c.array.new.self.left.now c.decode_run.new.reader.left.now c.read_pages.new.reader.left.now
+    three_read c.in_ok-digest.digest (written (map (λ b. b.1.key) came.below.items))
+    (pages_bytes (digests_beside came.below.items came.last)) c.args.reader.now.left.now c.array.new.self.left.now c.decode_run.new.reader.left.now c.read_pages.new.reader.left.now
     c.in_ok-digest.ensures.read
-    (c.in_ok-keys.ensures.read ∙ ap (λ t. t ++ c.decode_run.new.reader.left.now) (told_as_keys g.K.Encode.encoding c.args.run.now c.in_ok-keys.keys.items ∙ ap written (sym c.in_ok-below.ensures.keys)))
+    (c.in_ok-keys.ensures.read ∙ ap (λ t. t ++ c.decode_run.new.reader.left.now)
+    (told_as_keys g.K.Encode.encoding c.args.run.now c.in_ok-keys.keys.items ∙ ap written (sym c.in_ok-below.ensures.keys)))
     c.in_ok-below.ensures.read
 
 pub returns-clause-some : goal.returns-clause-some
@@ -41,14 +43,16 @@ pub returns-in_err-keys-clause-refused : goal.returns-in_err-keys-clause-refused
 returns-in_err-keys-clause-refused g c =
     let p = err_from_is_err_and c.from_residual-in_err-keys.result c.from_residual-in_err-keys.ensures.1 in
     rw (p.1, p.2) (refused_unread _ c.in_err-keys.field-0.0 (λ malformed.
-    no_page-keys g.K.Ord.cmp g.met.K.Ord.total g.K.Encode.encoding (keys_tell g) g.K.Decode.is_value c.args.run.now c.args.gap.now c.args.reader.now.left.now c.in_ok-digest.digest c.array.new.self.left.now c.in_ok-digest.ensures.read c.in_ok-digest.ensures.len
+    no_page-keys g.K.Ord.cmp g.met.K.Ord.total g.K.Encode.encoding (keys_tell g) g.K.Decode.is_value c.args.run.now c.args.gap.now c.args.reader.now.left.now
+    c.in_ok-digest.digest c.array.new.self.left.now c.in_ok-digest.ensures.read c.in_ok-digest.ensures.len
     (no_keys g.K.Encode.encoding g.K.Decode.is_value c.args.run.now c.array.new.self.left.now (c.in_err-keys.ensures.malformed malformed))))
 
 pub returns-then-is_empty-clause-refused : goal.returns-then-is_empty-clause-refused
 returns-then-is_empty-clause-refused g c =
     let keys = map (λ w. w.key) c.in_ok-keys.keys.items in
     let behind = c.decode_run.new.reader.left.now in
-    no_page-empty g.K.Ord.cmp g.met.K.Ord.total g.K.Encode.encoding (keys_tell g) g.K.Decode.is_value c.args.run.now c.args.gap.now c.args.reader.now.left.now c.in_ok-digest.digest c.array.new.self.left.now c.in_ok-digest.ensures.read c.in_ok-digest.ensures.len
+    no_page-empty g.K.Ord.cmp g.met.K.Ord.total g.K.Encode.encoding (keys_tell g) g.K.Decode.is_value c.args.run.now c.args.gap.now c.args.reader.now.left.now
+    c.in_ok-digest.digest c.array.new.self.left.now c.in_ok-digest.ensures.read c.in_ok-digest.ensures.len
     keys behind (c.in_ok-keys.ensures.read ∙ ap (λ t. t ++ behind) (told_as_keys g.K.Encode.encoding c.args.run.now c.in_ok-keys.keys.items))
     (ap (map (λ w. w.key)) (none_left c.in_ok-keys.keys (sym c.is_empty.ensures ∙ c.if-is_empty.true)))
 
@@ -56,7 +60,8 @@ pub returns-then-not-keys_lie_in-clause-refused : goal.returns-then-not-keys_lie
 returns-then-not-keys_lie_in-clause-refused g c =
     let keys = map (λ w. w.key) c.in_ok-keys.keys.items in
     let behind = c.decode_run.new.reader.left.now in
-    no_page-outside g.K.Ord.cmp g.met.K.Ord.total g.K.Encode.encoding (keys_tell g) g.K.Decode.is_value c.args.run.now c.args.gap.now c.args.reader.now.left.now c.in_ok-digest.digest c.array.new.self.left.now c.in_ok-digest.ensures.read c.in_ok-digest.ensures.len
+    no_page-outside g.K.Ord.cmp g.met.K.Ord.total g.K.Encode.encoding (keys_tell g) g.K.Decode.is_value c.args.run.now c.args.gap.now c.args.reader.now.left.now
+    c.in_ok-digest.digest c.array.new.self.left.now c.in_ok-digest.ensures.read c.in_ok-digest.ensures.len
     keys behind (c.in_ok-keys.ensures.read ∙ ap (λ t. t ++ behind) (told_as_keys g.K.Encode.encoding c.args.run.now c.in_ok-keys.keys.items))
     (rw c.deref.ensures.value at (c.keys_lie_in.ensures.outside c.if-not-keys_lie_in.true))
 
@@ -66,6 +71,7 @@ returns-in_err-below-clause-refused g c =
     let keys = map (λ w. w.key) c.in_ok-keys.keys.items in
     let behind = c.decode_run.new.reader.left.now in
     rw (p.1, p.2) (refused_for _ _ c.in_err-below.field-0.0 (λ none.
-    no_page-pages g.K.Ord.cmp g.met.K.Ord.total g.K.Encode.encoding (keys_tell g) g.K.Decode.is_value c.args.run.now c.args.gap.now c.args.reader.now.left.now c.in_ok-digest.digest c.array.new.self.left.now c.in_ok-digest.ensures.read c.in_ok-digest.ensures.len
+    no_page-pages g.K.Ord.cmp g.met.K.Ord.total g.K.Encode.encoding (keys_tell g) g.K.Decode.is_value c.args.run.now c.args.gap.now c.args.reader.now.left.now
+    c.in_ok-digest.digest c.array.new.self.left.now c.in_ok-digest.ensures.read c.in_ok-digest.ensures.len
     keys behind (c.in_ok-keys.ensures.read ∙ ap (λ t. t ++ behind) (told_as_keys g.K.Encode.encoding c.args.run.now c.in_ok-keys.keys.items))
     (subst (λ n. NoPageDigests (n + 1) behind) (sym (length-map c.in_ok-keys.keys.items (λ w. w.key))) none)) c.in_err-below.ensures.refused)

@@ -51,7 +51,8 @@ returns-clause-keys g c =
 
 pub returns-clause-read : goal.returns-clause-read
 returns-clause-read g c =
-    pages_more (map (λ b. b.0) c.keys.below.items) c.in_ok-last.last c.args.reader.now.left.now c.keys.reader.left.now c.decode_page-2.new.reader.left.now c.keys.invariant.read c.in_ok-last.ensures.read
+    pages_more (map (λ b. b.0) c.keys.below.items) c.in_ok-last.last c.args.reader.now.left.now c.keys.reader.left.now c.decode_page-2.new.reader.left.now
+    c.keys.invariant.read c.in_ok-last.ensures.read
 
 pub returns-clause-digests : goal.returns-clause-digests
 returns-clause-digests g c =
@@ -64,7 +65,15 @@ returns-in_err-page-clause-refused g c =
     let below = c.keys.below.items in
     rw (p.1, p.2) (refused_unread _ c.in_err-page.field-0.0 (λ malformed.
     no_pages (length c.args.keys.items + 1) c.args.reader.now.left.now c.keys.reader.left.now (map (λ b. b.0) below) kept.read kept.digests
-    (omega (arith, length-map below (λ b. b.0), length-map below (λ b. b.1.key), length-map c.keys.yielded (λ w. w.key), ap length kept.of, ap length kept.left, length-append c.keys.yielded (into_iter_items c.keys.wanted-iterator)))
+    (omega (
+      arith,
+      length-map below (λ b. b.0),
+      length-map below (λ b. b.1.key),
+      length-map c.keys.yielded (λ w. w.key),
+      ap length kept.of,
+      ap length kept.left,
+      length-append c.keys.yielded (into_iter_items c.keys.wanted-iterator),
+    ))
     (c.in_err-page.ensures.malformed malformed)))
 
 pub returns-in_err-last-clause-refused : goal.returns-in_err-last-clause-refused
@@ -74,5 +83,13 @@ returns-in_err-last-clause-refused g c =
     let below = c.keys.below.items in
     rw (p.1, p.2) (refused_unread _ c.in_err-last.field-0.0 (λ malformed.
     no_pages (length c.args.keys.items + 1) c.args.reader.now.left.now c.keys.reader.left.now (map (λ b. b.0) below) kept.read kept.digests
-    (omega (arith, length-map below (λ b. b.0), length-map below (λ b. b.1.key), length-map c.keys.yielded (λ w. w.key), ap length kept.of, ap length kept.left, length-append c.keys.yielded (into_iter_items c.keys.wanted-iterator)))
+    (omega (
+      arith,
+      length-map below (λ b. b.0),
+      length-map below (λ b. b.1.key),
+      length-map c.keys.yielded (λ w. w.key),
+      ap length kept.of,
+      ap length kept.left,
+      length-append c.keys.yielded (into_iter_items c.keys.wanted-iterator),
+    ))
     (c.in_err-last.ensures.malformed malformed)))

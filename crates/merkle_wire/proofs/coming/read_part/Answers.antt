@@ -13,7 +13,8 @@ returns-then-branch-clause-read g c =
     let last = bound_key g.K.Encode.encoding [] in (
       record { rows = c.in_ok-part.part.items; whole = true },
       [],
-      part_read g.K.Encode.encoding g.V.Encode.encoding (last c.args.gap.now.after) c.in_ok-run.run' c.in_ok-part.part.items c.in_ok-flag.field-0 true c.args.reader.now.left.now c.read_rows.new.reader.left.now c.flag.new.self.left.now
+      part_read g.K.Encode.encoding g.V.Encode.encoding (last c.args.gap.now.after) c.in_ok-run.run' c.in_ok-part.part.items c.in_ok-flag.field-0 true
+          c.args.reader.now.left.now c.read_rows.new.reader.left.now c.flag.new.self.left.now
           c.in_ok-part.ensures.read c.in_ok-flag.ensures.read (c.in_ok-run.ensures ∙ ap last c.as_ref.ensures.value) c.if-branch.true,
       c.in_ok-part.ensures.lie,
       inl (refl, refl),
@@ -27,7 +28,8 @@ returns-clause-read g c =
     let added = rw c.deref.ensures.value at c.in_ok-add_behind.ensures.added in (
       record { rows = c.in_ok-part.part.items; whole = false },
       added.2 ∷ [],
-      part_read g.K.Encode.encoding g.V.Encode.encoding (last c.args.gap.now.after) c.in_ok-run.run' c.in_ok-part.part.items c.in_ok-flag.field-0 false c.args.reader.now.left.now c.read_rows.new.reader.left.now c.flag.new.self.left.now
+      part_read g.K.Encode.encoding g.V.Encode.encoding (last c.args.gap.now.after) c.in_ok-run.run' c.in_ok-part.part.items c.in_ok-flag.field-0 false
+          c.args.reader.now.left.now c.read_rows.new.reader.left.now c.flag.new.self.left.now
           c.in_ok-part.ensures.read c.in_ok-flag.ensures.read (c.in_ok-run.ensures ∙ ap last c.as_ref.ensures.value) c.if-branch.false,
       c.in_ok-part.ensures.lie,
       inr (added.0, added.1, added.2, refl, added.3, added.4, refl),
@@ -40,8 +42,11 @@ returns-in_err-part-clause-refused g c =
     let p = err_from_is_err_and c.from_residual-in_err-part.result c.from_residual-in_err-part.ensures.1 in
     let run = c.in_ok-run.ensures ∙ ap (bound_key g.K.Encode.encoding []) c.as_ref.ensures.value in
     rw (p.1, p.2) (refused_for _ _ c.in_err-part.field-0.0 (λ none.
-    no_part g.K.Ord.cmp g.met.K.Ord.total g.V.PartialEq.eq g.K.Encode.encoding g.V.Encode.encoding (key_tells g.K.Ord.cmp g.K.Encode.encoding g.K.PartialEq.eq g.met.K.Ord.matches_eq g.met.K.Decode.told) g.met.V.Decode.told g.K.Decode.is_value g.V.Decode.is_value c.args.gap.now c.args.reader.now.left.now
-    (subst (λ last. NoRows g.K.Ord.cmp g.K.Decode.is_value g.V.Decode.is_value g.K.Encode.encoding g.V.Encode.encoding last c.args.gap.now c.args.reader.now.left.now) run none)) c.in_err-part.ensures.refused)
+    no_part g.K.Ord.cmp g.met.K.Ord.total g.V.PartialEq.eq g.K.Encode.encoding g.V.Encode.encoding
+    (key_tells g.K.Ord.cmp g.K.Encode.encoding g.K.PartialEq.eq g.met.K.Ord.matches_eq g.met.K.Decode.told) g.met.V.Decode.told g.K.Decode.is_value
+    g.V.Decode.is_value c.args.gap.now c.args.reader.now.left.now
+    (subst (λ last. NoRows g.K.Ord.cmp g.K.Decode.is_value g.V.Decode.is_value g.K.Encode.encoding g.V.Encode.encoding last c.args.gap.now c.args.reader.now.left.now) run
+    none)) c.in_err-part.ensures.refused)
 
 pub returns-in_err-flag-clause-refused : goal.returns-in_err-flag-clause-refused
 returns-in_err-flag-clause-refused g c =
@@ -50,8 +55,11 @@ returns-in_err-flag-clause-refused g c =
     let behind = c.read_rows.new.reader.left.now in
     let rows = c.in_ok-part.part.items in
     rw (p.1, p.2) (refused_unread _ c.in_err-flag.field-0.0 (λ malformed.
-    no_part-flag g.K.Ord.cmp g.met.K.Ord.total g.V.PartialEq.eq g.K.Encode.encoding g.V.Encode.encoding (key_tells g.K.Ord.cmp g.K.Encode.encoding g.K.PartialEq.eq g.met.K.Ord.matches_eq g.met.K.Decode.told) g.met.V.Decode.told g.K.Decode.is_value g.V.Decode.is_value c.args.gap.now c.args.reader.now.left.now rows behind
-    (c.in_ok-part.ensures.read ∙ ap (λ last. run_bytes (row_behind g.K.Encode.encoding g.V.Encode.encoding) (row_key g.K.Encode.encoding) last rows ++ behind) run) (c.in_err-flag.ensures.malformed malformed)))
+    no_part-flag g.K.Ord.cmp g.met.K.Ord.total g.V.PartialEq.eq g.K.Encode.encoding g.V.Encode.encoding
+    (key_tells g.K.Ord.cmp g.K.Encode.encoding g.K.PartialEq.eq g.met.K.Ord.matches_eq g.met.K.Decode.told) g.met.V.Decode.told g.K.Decode.is_value
+    g.V.Decode.is_value c.args.gap.now c.args.reader.now.left.now rows behind
+    (c.in_ok-part.ensures.read ∙ ap (λ last. run_bytes (row_behind g.K.Encode.encoding g.V.Encode.encoding) (row_key g.K.Encode.encoding) last rows ++ behind) run)
+    (c.in_err-flag.ensures.malformed malformed)))
 
 pub returns-in_err-add_behind-clause-refused : goal.returns-in_err-add_behind-clause-refused
 returns-in_err-add_behind-clause-refused g c =
@@ -60,6 +68,9 @@ returns-in_err-add_behind-clause-refused g c =
     let behind = c.read_rows.new.reader.left.now in
     let rows = c.in_ok-part.part.items in
     rw (p.1, p.2) (refused_for _ _ c.in_err-add_behind.field-0.0 (λ none.
-    no_part-empty g.K.Ord.cmp g.met.K.Ord.total g.V.PartialEq.eq g.K.Encode.encoding g.V.Encode.encoding (key_tells g.K.Ord.cmp g.K.Encode.encoding g.K.PartialEq.eq g.met.K.Ord.matches_eq g.met.K.Decode.told) g.met.V.Decode.told g.K.Decode.is_value g.V.Decode.is_value c.args.gap.now c.args.reader.now.left.now rows behind
+    no_part-empty g.K.Ord.cmp g.met.K.Ord.total g.V.PartialEq.eq g.K.Encode.encoding g.V.Encode.encoding
+    (key_tells g.K.Ord.cmp g.K.Encode.encoding g.K.PartialEq.eq g.met.K.Ord.matches_eq g.met.K.Decode.told) g.met.V.Decode.told g.K.Decode.is_value
+    g.V.Decode.is_value c.args.gap.now c.args.reader.now.left.now rows behind
     (c.in_ok-part.ensures.read ∙ ap (λ last. run_bytes (row_behind g.K.Encode.encoding g.V.Encode.encoding) (row_key g.K.Encode.encoding) last rows ++ behind) run)
-    c.flag.new.self.left.now (c.in_ok-flag.ensures.read ∙ ap (λ flag. cond flag 1 0 ∷ c.flag.new.self.left.now) c.if-branch.false) (rw c.deref.ensures.value at none)) c.in_err-add_behind.ensures.refused)
+    c.flag.new.self.left.now (c.in_ok-flag.ensures.read ∙ ap (λ flag. cond flag 1 0 ∷ c.flag.new.self.left.now) c.if-branch.false) (rw c.deref.ensures.value at none))
+    c.in_err-add_behind.ensures.refused)

@@ -31,5 +31,6 @@ returns-clause-known g c = rw g.met.H.RowHasher.laws_are (λ local up at digest.
     let m = tree_map laws local in
     let own = one_tree.defined local.hasher local.base m in (
       (own_pages laws g.met.K.Ord.total local own up).there at digest,
-      pages_known laws g.met.K.Ord.total local own up (λ t u f h. one_tree.pages local.hasher local.base m m t u (same_map-own g.K.Ord.cmp g.met.K.Ord.total m) f h) (c.equal_pages_have_equal_maps.ensures.digests local.format) at digest,
+      pages_known laws g.met.K.Ord.total local own up (λ t u f h. one_tree.pages local.hasher local.base m m t u (same_map-own g.K.Ord.cmp g.met.K.Ord.total m) f h)
+          (c.equal_pages_have_equal_maps.ensures.digests local.format) at digest,
     ))

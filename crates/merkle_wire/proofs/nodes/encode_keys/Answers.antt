@@ -15,5 +15,6 @@ nodes-preserved g c =
     let nodes = c.args.nodes.now in
     let x = c.node-item.result in
     let more = ap keys_among (map_more (λ n. (n.0.now, n.1.now)) nodes i x c.nodes-test.true c.node-item.is) ∙ map-append _ (node_pairs (take i nodes)) _ in
-    written_next (λ last k. key_behind last (encoding k)) (λ last k. encoding k) c.args.run.now c.nodes.run c.encode.new.self (keys_among (node_pairs (take i nodes))) _ x.0.now (c.args.bytes.now.items ++ count_bytes (length nodes))
+    written_next (λ last k. key_behind last (encoding k)) (λ last k. encoding k) c.args.run.now c.nodes.run c.encode.new.self
+    (keys_among (node_pairs (take i nodes))) _ x.0.now (c.args.bytes.now.items ++ count_bytes (length nodes))
     c.nodes.bytes.items c.encode.new.bytes.items more c.nodes.invariant.0 c.nodes.invariant.1 c.in_ok-encode.ensures.written c.in_ok-encode.ensures.last

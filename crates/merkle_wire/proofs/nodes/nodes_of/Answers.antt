@@ -15,5 +15,6 @@ items-preserved g c =
     elim c.match-item.branch [
       | in-Node+in_ok-push w ↦ ap (λ v. node_pairs v.items) w.nodes-is ∙ ap node_pairs w.in_ok-push.ensures.items ∙ map-append _ c.items.nodes.items _
           ∙ ap (λ ns. ns ++ (w.in-Node.key.now, w.in-Node.digest.now) ∷ []) c.items.invariant ∙ ap (λ y. nodes_among first ++ nodes_among (item y ∷ [])) (sym w.in-Node.is) ∙ sym more
-      | in_default w ↦ ap (λ v. node_pairs v.items) w.nodes-is ∙ c.items.invariant ∙ sym (append-nil (nodes_among first)) ∙ ap (λ y. nodes_among first ++ nodes_among (item y ∷ [])) (sym w.in_default.is) ∙ sym more
+      | in_default w ↦ ap (λ v. node_pairs v.items) w.nodes-is ∙ c.items.invariant ∙ sym (append-nil (nodes_among first))
+          ∙ ap (λ y. nodes_among first ++ nodes_among (item y ∷ [])) (sym w.in_default.is) ∙ sym more
     ]

@@ -40,7 +40,8 @@ returns g c =
     let all : items (take c.items.item-index list) ≡ items list = ap items (take_all c.items.item-index list (omega (arith, c.items-test.false))) in
     let before = pages_before None (items list) in
     let behind = page_behind None (items list) in
-    c.in_ok-encode_page.ensures ∙ ap₂ (λ t q. t ++ option_bytes (λ d. d) q) (c.items.invariant.0 ∙ ap (λ xs. old ++ pages_bytes (pages_before None xs)) all) (c.items.invariant.1 ∙ ap (page_behind None) all)
+    c.in_ok-encode_page.ensures ∙ ap₂ (λ t q. t ++ option_bytes (λ d. d) q) (c.items.invariant.0 ∙ ap (λ xs. old ++ pages_bytes (pages_before None xs)) all)
+    (c.items.invariant.1 ∙ ap (page_behind None) all)
     ∙ append_assoc old (pages_bytes before) (option_bytes (λ d. d) behind)
     ∙ ap (λ t. old ++ t) (ap (λ t. pages_bytes before ++ t) (sym (append-nil (option_bytes (λ d. d) behind))) ∙ sym (flat_map-append (option_bytes (λ d. d)) before (behind ∷ []))
     ∙ ap pages_bytes (sym (pages_are None (items list))))

@@ -16,7 +16,8 @@ pub returns-in_err-end-clause-refused : goal.returns-in_err-end-clause-refused
 returns-in_err-end-clause-refused g c =
     let p = err_from_is_err_and c.from_residual-in_err-end.result c.from_residual-in_err-end.ensures.1 in
     let behind = c.decode_run.new.reader in
-    rw (p.1, p.2) (refused_behind c.args.reader.total behind.total c.args.reader.left.now (run_bytes g.T.EncodeInRun.bytes_behind g.T.EncodeInRun.last_key c.new-run.result c.in_ok-list.list.items) behind.left.now
+    rw (p.1, p.2) (refused_behind c.args.reader.total behind.total c.args.reader.left.now
+    (run_bytes g.T.EncodeInRun.bytes_behind g.T.EncodeInRun.last_key c.new-run.result c.in_ok-list.list.items) behind.left.now
     c.in_err-end.field-0.0 c.in_ok-list.ensures.read c.decode_run.ensures.total c.in_err-end.ensures.refused)
 
 pub returns-in_err-end-clause-malformed : goal.returns-in_err-end-clause-malformed
@@ -25,6 +26,7 @@ returns-in_err-end-clause-malformed g c =
     rw (p.1, p.2) (λ malformed list each e.
     let run = run_bytes g.T.EncodeInRun.bytes_behind g.T.EncodeInRun.last_key in
     let whole = e ∙ ap (λ l. run l list) (sym c.new-run.ensures) ∙ sym (append-nil (run c.new-run.result list)) in
-    let told = run_told g.T.EncodeInRun.bytes_behind g.T.EncodeInRun.last_key (λ x y. g.T.PartialEq.eq x y ≡ true) g.met.T.DecodeInRun.told c.new-run.result c.in_ok-list.list.items list c.decode_run.new.reader.left.now []
+    let told = run_told g.T.EncodeInRun.bytes_behind g.T.EncodeInRun.last_key
+    (λ x y. g.T.PartialEq.eq x y ≡ true) g.met.T.DecodeInRun.told c.new-run.result c.in_ok-list.list.items list c.decode_run.new.reader.left.now []
     (sym c.in_ok-list.ensures.read ∙ whole) in
     c.in_err-end.ensures.malformed malformed told.2)

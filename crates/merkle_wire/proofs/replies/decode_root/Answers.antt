@@ -21,4 +21,5 @@ returns-in_err-end-clause-refused c =
     let digest = c.in_ok-digest in
     rw (p.1, p.2) (refused_unread _ c.in_err-end.field-0.0 (λ malformed.
     says_not root_kind SaysRoot c.args.reply.now left (sym c.new-reader.ensures.left ∙ c.in_ok-expect.ensures.read)
-    (no_root-end c.in_ok-rows.rows digest.digest left c.count.new.self.left.now c.decode_page.new.reader.left.now c.in_ok-rows.ensures.read digest.ensures.read digest.ensures.len (c.in_err-end.ensures.malformed malformed))))
+    (no_root-end c.in_ok-rows.rows digest.digest left c.count.new.self.left.now c.decode_page.new.reader.left.now c.in_ok-rows.ensures.read digest.ensures.read
+    digest.ensures.len (c.in_err-end.ensures.malformed malformed))))

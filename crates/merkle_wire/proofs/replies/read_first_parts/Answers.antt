@@ -64,10 +64,21 @@ returns-in_err-read_part-clause-refused g c =
     let gaps = c.args.gaps.now in
     let next = c.gap-item.result in
     rw (p.1, p.2) (refused_for _ _ c.in_err-read_part.field-0.0 (λ none told others begins each.
-    none_next (λ t. part_bytes g.K.Encode.encoding g.V.Encode.encoding (bound_key g.K.Encode.encoding [] t.0.after) t.1) (λ t. AscendIn g.K.Ord.cmp (owned_gap t.0) (map (λ r. r.0) t.1.rows)) (λ t. IsPartIn g.K.Ord.cmp g.K.Decode.is_value g.V.Decode.is_value (owned_gap t.0) t.1)
-    (λ t. part_some g.K.Ord.cmp g.V.PartialEq.eq g.K.Encode.encoding g.V.Encode.encoding (key_tells g.K.Ord.cmp g.K.Encode.encoding g.K.PartialEq.eq g.met.K.Ord.matches_eq g.met.K.Decode.told) g.met.V.Decode.told (bound_key g.K.Encode.encoding [] t.0.after) t.1) (λ gap y z r s _ _ e. parts_end g.K.Ord.cmp g.V.PartialEq.eq g.K.Encode.encoding g.V.Encode.encoding (key_tells g.K.Ord.cmp g.K.Encode.encoding g.K.PartialEq.eq g.met.K.Ord.matches_eq g.met.K.Decode.told) g.met.V.Decode.told gap y z r s e)
+    none_next (λ t. part_bytes g.K.Encode.encoding g.V.Encode.encoding (bound_key g.K.Encode.encoding [] t.0.after) t.1)
+    (λ t. AscendIn g.K.Ord.cmp (owned_gap t.0) (map (λ r. r.0) t.1.rows)) (λ t. IsPartIn g.K.Ord.cmp g.K.Decode.is_value g.V.Decode.is_value (owned_gap t.0) t.1)
+    (λ t. part_some g.K.Ord.cmp g.V.PartialEq.eq g.K.Encode.encoding g.V.Encode.encoding
+    (key_tells g.K.Ord.cmp g.K.Encode.encoding g.K.PartialEq.eq g.met.K.Ord.matches_eq g.met.K.Decode.told) g.met.V.Decode.told
+    (bound_key g.K.Encode.encoding [] t.0.after) t.1)
+    (λ gap y z r s _ _ e. parts_end g.K.Ord.cmp g.V.PartialEq.eq g.K.Encode.encoding g.V.Encode.encoding
+    (key_tells g.K.Ord.cmp g.K.Encode.encoding g.K.PartialEq.eq g.met.K.Ord.matches_eq g.met.K.Decode.told) g.met.V.Decode.told gap y z r s e)
     kept.0 gaps c.args.reader.now.left.now c.gaps.reader.left.now kept.3.each kept.3.is
     (λ e. some_bytes c.left.result.now (sym c.is_empty.ensures ∙ c.if-is_empty.false) (c.left.ensures ∙ e))
-    next (drop (c.gaps.gap-index + 1) gaps) (next_of (λ t. part_bytes g.K.Encode.encoding g.V.Encode.encoding (bound_key g.K.Encode.encoding [] t.0.after) t.1) (λ t. AscendIn g.K.Ord.cmp (owned_gap t.0) (map (λ r. r.0) t.1.rows)) (λ t. IsPartIn g.K.Ord.cmp g.K.Decode.is_value g.V.Decode.is_value (owned_gap t.0) t.1)
-    (λ t. part_some g.K.Ord.cmp g.V.PartialEq.eq g.K.Encode.encoding g.V.Encode.encoding (key_tells g.K.Ord.cmp g.K.Encode.encoding g.K.PartialEq.eq g.met.K.Ord.matches_eq g.met.K.Decode.told) g.met.V.Decode.told (bound_key g.K.Encode.encoding [] t.0.after) t.1) (λ gap y z r s _ _ e. parts_end g.K.Ord.cmp g.V.PartialEq.eq g.K.Encode.encoding g.V.Encode.encoding (key_tells g.K.Ord.cmp g.K.Encode.encoding g.K.PartialEq.eq g.met.K.Ord.matches_eq g.met.K.Decode.told) g.met.V.Decode.told gap y z r s e) _ gaps c.args.reader.now.left.now c.gaps.reader.left.now c.gaps.gap-index kept.0 next kept.3 c.gaps-test.true c.gap-item.is)
+    next (drop (c.gaps.gap-index + 1) gaps) (next_of (λ t. part_bytes g.K.Encode.encoding g.V.Encode.encoding (bound_key g.K.Encode.encoding [] t.0.after) t.1)
+    (λ t. AscendIn g.K.Ord.cmp (owned_gap t.0) (map (λ r. r.0) t.1.rows)) (λ t. IsPartIn g.K.Ord.cmp g.K.Decode.is_value g.V.Decode.is_value (owned_gap t.0) t.1)
+    (λ t. part_some g.K.Ord.cmp g.V.PartialEq.eq g.K.Encode.encoding g.V.Encode.encoding
+    (key_tells g.K.Ord.cmp g.K.Encode.encoding g.K.PartialEq.eq g.met.K.Ord.matches_eq g.met.K.Decode.told) g.met.V.Decode.told
+    (bound_key g.K.Encode.encoding [] t.0.after) t.1)
+    (λ gap y z r s _ _ e. parts_end g.K.Ord.cmp g.V.PartialEq.eq g.K.Encode.encoding g.V.Encode.encoding
+    (key_tells g.K.Ord.cmp g.K.Encode.encoding g.K.PartialEq.eq g.met.K.Ord.matches_eq g.met.K.Decode.told) g.met.V.Decode.told gap y z r s e) _ gaps
+    c.args.reader.now.left.now c.gaps.reader.left.now c.gaps.gap-index kept.0 next kept.3 c.gaps-test.true c.gap-item.is)
     none told others begins each) c.in_err-read_part.ensures.refused)

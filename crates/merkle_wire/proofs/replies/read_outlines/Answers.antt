@@ -32,7 +32,8 @@ told_bytes g t = outline_bytes g.K.Encode.encoding g.V.Encode.encoding (bound_ke
 -- there are some
 some_told : (g : Over) (t : OwnedGap g.row.K.Denot × Outline g.row.K.Denot g.row.V.Denot) → 1 ≤ length (told_bytes g t)
 some_told g t =
-    outline_some g.K.Ord.cmp g.V.PartialEq.eq g.K.Encode.encoding g.V.Encode.encoding (key_tells g.K.Ord.cmp g.K.Encode.encoding g.K.PartialEq.eq g.met.K.Ord.matches_eq g.met.K.Decode.told) g.met.V.Decode.told (bound_key g.K.Encode.encoding [] t.0.after) t.1
+    outline_some g.K.Ord.cmp g.V.PartialEq.eq g.K.Encode.encoding g.V.Encode.encoding
+    (key_tells g.K.Ord.cmp g.K.Encode.encoding g.K.PartialEq.eq g.met.K.Ord.matches_eq g.met.K.Decode.told) g.met.V.Decode.told (bound_key g.K.Encode.encoding [] t.0.after) t.1
 
 pub gaps-init : goal.gaps-init
 gaps-init g c =
@@ -55,7 +56,8 @@ gaps-preserved-in-Continue-branch-2 g c =
     record {
       left = given.0;
       count = given.1;
-      of = ap (λ t. t ++ gap ∷ []) kept.of ∙ append_assoc (map (λ t. t.0) (outlines_read c.gaps.told.items)) c.gaps.left.items (gap ∷ []) ∙ ap (λ t. map (λ t. t.0) (outlines_read c.gaps.told.items) ++ t) (sym c.in_ok-push.ensures.items);
+      of = ap (λ t. t ++ gap ∷ []) kept.of ∙ append_assoc (map (λ t. t.0) (outlines_read c.gaps.told.items)) c.gaps.left.items (gap ∷ [])
+          ∙ ap (λ t. map (λ t. t.0) (outlines_read c.gaps.told.items) ++ t) (sym c.in_ok-push.ensures.items);
       once = λ some. sym c.left.ensures ∙ no_bytes c.left.result.now (sym c.is_empty.ensures ∙ c.if-is_empty.true);
       read = kept.read;
       each = kept.each;
@@ -79,7 +81,8 @@ gaps-preserved g c =
       of = ap (λ t. t ++ gap ∷ []) (kept.of ∙ ap (λ l. map (λ t. t.0) old ++ l) none ∙ append-nil (map (λ t. t.0) old)) ∙ sym (map-append (λ t. t.0) old (one ∷ []))
           ∙ sym (append-nil (map (λ t. t.0) (old ++ one ∷ []))) ∙ ap (λ l. map (λ t. t.0) (old ++ one ∷ []) ++ l) (sym none) ∙ ap (λ ts. map (λ t. t.0) ts ++ c.gaps.left.items) (sym more);
       once = λ some. absurd (some none);
-      read = kept.read ∙ ap (λ t. front c.args.kind ++ t) (ap (λ t. bytes old ++ t) (came.ensures.read ∙ ap (λ t. t ++ left) (sym (append-nil (told_bytes g one)))) ∙ sym (append_assoc (bytes old) (told_bytes g one ++ []) left)
+      read = kept.read ∙ ap (λ t. front c.args.kind ++ t)
+          (ap (λ t. bytes old ++ t) (came.ensures.read ∙ ap (λ t. t ++ left) (sym (append-nil (told_bytes g one)))) ∙ sym (append_assoc (bytes old) (told_bytes g one ++ []) left)
           ∙ ap (λ t. t ++ left) (sym (flat_map-append (told_bytes g) old (one ∷ [])) ∙ ap bytes (sym more)));
       each = subst (AllByRecursion (λ t. LiesIn g.K.Ord.cmp c.args.digest_bytes (owned_gap t.0) t.1)) (sym more) (each-append _ old (one ∷ []) kept.each (came.ensures.lies, tt));
     }
@@ -92,7 +95,8 @@ returns-clause-read g c =
     let done = all_yielded c.gaps.yielded (into_iter_items c.gaps.gap-iterator) c.args.gaps.items kept.left (sym kept.count ∙ c.in-None.ensures.steps.0) in
     let all = kept.read ∙ ap (λ t. front c.args.kind ++ (bytes told ++ t)) c.in_ok-end.ensures.ended ∙ ap (λ t. front c.args.kind ++ t) (append-nil (bytes told)) in (
       all,
-      λ e. c.in_ok-reader.ensures.some (let same : front c.args.kind ++ c.in_ok-reader.reader.left.now ≡ front c.args.kind ++ [] = sym c.in_ok-reader.ensures.read ∙ all ∙ ap (λ t. front c.args.kind ++ bytes t) e in cc),
+      λ e. c.in_ok-reader.ensures.some (let same : front c.args.kind ++ c.in_ok-reader.reader.left.now ≡ front c.args.kind ++ [] = sym c.in_ok-reader.ensures.read ∙ all
+          ∙ ap (λ t. front c.args.kind ++ bytes t) e in cc),
       sym done ∙ kept.of,
       kept.each,
     )
@@ -101,7 +105,8 @@ pub returns-in_err-reader-clause-refused : goal.returns-in_err-reader-clause-ref
 returns-in_err-reader-clause-refused g c =
     let p = err_from_is_err_and c.from_residual.result c.from_residual.ensures.1 in
     rw (p.1, p.2) (refused_for _ _ c.in_err-reader.field-0.0 (λ none.
-    says_no_entry (λ gap told. IsOutlineIn g.K.Ord.cmp g.K.Decode.is_value g.V.Decode.is_value c.args.digest_bytes c.args.with_pages (owned_gap gap) told) c.args.kind c.args.gaps.items c.args.reply.now
+    says_no_entry (λ gap told. IsOutlineIn g.K.Ord.cmp g.K.Decode.is_value g.V.Decode.is_value c.args.digest_bytes c.args.with_pages (owned_gap gap) told) c.args.kind
+    c.args.gaps.items c.args.reply.now
     (told_bytes g) (some_told g) none) c.in_err-reader.ensures.refused)
 
 pub returns-in_err-outline-clause-refused : goal.returns-in_err-outline-clause-refused
@@ -123,7 +128,9 @@ returns-in_err-outline-clause-refused g c =
     bytes (bytes told ++ left) kept.read
     (none_next (told_bytes g) (λ t. Fits c.args.digest_bytes t.1) (λ t. IsOutlineIn g.K.Ord.cmp g.K.Decode.is_value g.V.Decode.is_value c.args.digest_bytes c.args.with_pages (owned_gap t.0) t.1)
     (some_told g)
-    (λ gap y z r s. outlines_end g.K.Ord.cmp g.V.PartialEq.eq g.K.Encode.encoding g.V.Encode.encoding (key_tells g.K.Ord.cmp g.K.Encode.encoding g.K.PartialEq.eq g.met.K.Ord.matches_eq g.met.K.Decode.told) g.met.V.Decode.told g.K.Decode.is_value g.V.Decode.is_value c.args.digest_bytes c.args.with_pages gap y z r s)
+    (λ gap y z r s. outlines_end g.K.Ord.cmp g.V.PartialEq.eq g.K.Encode.encoding g.V.Encode.encoding
+    (key_tells g.K.Ord.cmp g.K.Encode.encoding g.K.PartialEq.eq g.met.K.Ord.matches_eq g.met.K.Decode.told) g.met.V.Decode.told g.K.Decode.is_value
+    g.V.Decode.is_value c.args.digest_bytes c.args.with_pages gap y z r s)
     told gaps (bytes told ++ left) left (fits_lie g.K.Ord.cmp c.args.digest_bytes told kept.each) refl more
     gap behind (ap (λ t. t ++ gap ∷ behind) (sym firsts) ∙ rw steps at kept.left) (λ y rest is. no_outline y rest is))) c.in_err-outline.ensures.refused)
 
@@ -144,5 +151,7 @@ returns-in_err-end-clause-refused g c =
     bytes (bytes told ++ left) kept.read
     (none_left (told_bytes g) (λ t. Fits c.args.digest_bytes t.1) (λ t. IsOutlineIn g.K.Ord.cmp g.K.Decode.is_value g.V.Decode.is_value c.args.digest_bytes c.args.with_pages (owned_gap t.0) t.1)
     (some_told g)
-    (λ gap y z r s. outlines_end g.K.Ord.cmp g.V.PartialEq.eq g.K.Encode.encoding g.V.Encode.encoding (key_tells g.K.Ord.cmp g.K.Encode.encoding g.K.PartialEq.eq g.met.K.Ord.matches_eq g.met.K.Decode.told) g.met.V.Decode.told g.K.Decode.is_value g.V.Decode.is_value c.args.digest_bytes c.args.with_pages gap y z r s)
+    (λ gap y z r s. outlines_end g.K.Ord.cmp g.V.PartialEq.eq g.K.Encode.encoding g.V.Encode.encoding
+    (key_tells g.K.Ord.cmp g.K.Encode.encoding g.K.PartialEq.eq g.met.K.Ord.matches_eq g.met.K.Decode.told) g.met.V.Decode.told g.K.Decode.is_value
+    g.V.Decode.is_value c.args.digest_bytes c.args.with_pages gap y z r s)
     told gaps (bytes told ++ left) left (fits_lie g.K.Ord.cmp c.args.digest_bytes told kept.each) refl more (sym firsts ∙ done))))

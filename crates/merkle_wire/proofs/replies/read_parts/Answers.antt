@@ -40,7 +40,10 @@ returns-in_err-reader-clause-refused g c =
     let p = err_from_is_err_and c.from_residual.result c.from_residual.ensures.1 in
     rw (p.1, p.2) (refused_for _ _ c.in_err-reader.field-0.0 (λ none.
     says_no_entry (λ gap told. IsPartIn g.K.Ord.cmp g.K.Decode.is_value g.V.Decode.is_value (owned_gap gap) told) rows_in_kind c.args.gaps.items c.args.reply.now
-    (λ t. part_bytes g.K.Encode.encoding g.V.Encode.encoding (bound_key g.K.Encode.encoding [] t.0.after) t.1) (λ t. part_some g.K.Ord.cmp g.V.PartialEq.eq g.K.Encode.encoding g.V.Encode.encoding (key_tells g.K.Ord.cmp g.K.Encode.encoding g.K.PartialEq.eq g.met.K.Ord.matches_eq g.met.K.Decode.told) g.met.V.Decode.told (bound_key g.K.Encode.encoding [] t.0.after) t.1) none) c.in_err-reader.ensures.refused)
+    (λ t. part_bytes g.K.Encode.encoding g.V.Encode.encoding (bound_key g.K.Encode.encoding [] t.0.after) t.1)
+    (λ t. part_some g.K.Ord.cmp g.V.PartialEq.eq g.K.Encode.encoding g.V.Encode.encoding
+    (key_tells g.K.Ord.cmp g.K.Encode.encoding g.K.PartialEq.eq g.met.K.Ord.matches_eq g.met.K.Decode.told) g.met.V.Decode.told
+    (bound_key g.K.Encode.encoding [] t.0.after) t.1) none) c.in_err-reader.ensures.refused)
 
 pub returns-in_err-end-clause-refused : goal.returns-in_err-end-clause-refused
 returns-in_err-end-clause-refused g c =
@@ -54,6 +57,11 @@ returns-in_err-end-clause-refused g c =
     let all = rw c.deref.ensures.value at (c.in_ok-count.ensures.all more) in
     says_nothing (λ gap told. IsPartIn g.K.Ord.cmp g.K.Decode.is_value g.V.Decode.is_value (owned_gap gap) told) rows_in_kind gaps c.args.reply.now
     (parts_bytes g.K.Encode.encoding g.V.Encode.encoding) c.in_ok-reader.reader.left.now c.in_ok-reader.ensures.read
-    (none_left (λ t. part_bytes g.K.Encode.encoding g.V.Encode.encoding (bound_key g.K.Encode.encoding [] t.0.after) t.1) (λ t. AscendIn g.K.Ord.cmp (owned_gap t.0) (map (λ r. r.0) t.1.rows)) (λ t. IsPartIn g.K.Ord.cmp g.K.Decode.is_value g.V.Decode.is_value (owned_gap t.0) t.1)
-    (λ t. part_some g.K.Ord.cmp g.V.PartialEq.eq g.K.Encode.encoding g.V.Encode.encoding (key_tells g.K.Ord.cmp g.K.Encode.encoding g.K.PartialEq.eq g.met.K.Ord.matches_eq g.met.K.Decode.told) g.met.V.Decode.told (bound_key g.K.Encode.encoding [] t.0.after) t.1) (λ gap y z r s _ _ e. parts_end g.K.Ord.cmp g.V.PartialEq.eq g.K.Encode.encoding g.V.Encode.encoding (key_tells g.K.Ord.cmp g.K.Encode.encoding g.K.PartialEq.eq g.met.K.Ord.matches_eq g.met.K.Decode.told) g.met.V.Decode.told gap y z r s e)
+    (none_left (λ t. part_bytes g.K.Encode.encoding g.V.Encode.encoding (bound_key g.K.Encode.encoding [] t.0.after) t.1)
+    (λ t. AscendIn g.K.Ord.cmp (owned_gap t.0) (map (λ r. r.0) t.1.rows)) (λ t. IsPartIn g.K.Ord.cmp g.K.Decode.is_value g.V.Decode.is_value (owned_gap t.0) t.1)
+    (λ t. part_some g.K.Ord.cmp g.V.PartialEq.eq g.K.Encode.encoding g.V.Encode.encoding
+    (key_tells g.K.Ord.cmp g.K.Encode.encoding g.K.PartialEq.eq g.met.K.Ord.matches_eq g.met.K.Decode.told) g.met.V.Decode.told
+    (bound_key g.K.Encode.encoding [] t.0.after) t.1)
+    (λ gap y z r s _ _ e. parts_end g.K.Ord.cmp g.V.PartialEq.eq g.K.Encode.encoding g.V.Encode.encoding
+    (key_tells g.K.Ord.cmp g.K.Encode.encoding g.K.PartialEq.eq g.met.K.Ord.matches_eq g.met.K.Decode.told) g.met.V.Decode.told gap y z r s e)
     told gaps c.in_ok-reader.reader.left.now rest came.1.4 came.1.3 more (came.1.2 ∙ take_all c.in_ok-count.count gaps (omega (arith, all))))))

@@ -17,7 +17,8 @@ returns-then-is_empty-clause-read g c =
 pub returns-in-Outlines-clause-read : goal.returns-in-Outlines-clause-read
 returns-in-Outlines-clause-read g c =
     let read = c.in_ok-told-in-Outlines in
-    subst (λ q. IsRead g.K.Ord.cmp g.K.Encode.encoding g.V.Encode.encoding c.args.digest_bytes q c.args.reply.now (came.Outlines read.told) (Some (Outlines c.in-Outlines.most read.left))) (sym c.in-Outlines.is)
+    subst (λ q. IsRead g.K.Ord.cmp g.K.Encode.encoding g.V.Encode.encoding c.args.digest_bytes q c.args.reply.now (came.Outlines read.told)
+    (Some (Outlines c.in-Outlines.most read.left))) (sym c.in-Outlines.is)
     (read.told, read.left.items, refl, read.ensures.read, asks_some (Outlines c.in-Outlines.most) read.left (sym c.is_empty.ensures ∙ c.if-is_empty.false))
 
 pub returns-then-is_empty-2-clause-read : goal.returns-then-is_empty-2-clause-read
@@ -29,7 +30,8 @@ returns-then-is_empty-2-clause-read g c =
 pub returns-in-Nodes-clause-read : goal.returns-in-Nodes-clause-read
 returns-in-Nodes-clause-read g c =
     let read = c.in_ok-told-in-Nodes in
-    subst (λ q. IsRead g.K.Ord.cmp g.K.Encode.encoding g.V.Encode.encoding c.args.digest_bytes q c.args.reply.now (came.Outlines read.told) (Some (Nodes c.in-Nodes.most read.left))) (sym c.in-Nodes.is)
+    subst (λ q. IsRead g.K.Ord.cmp g.K.Encode.encoding g.V.Encode.encoding c.args.digest_bytes q c.args.reply.now (came.Outlines read.told)
+    (Some (Nodes c.in-Nodes.most read.left))) (sym c.in-Nodes.is)
     (read.told, read.left.items, refl, read.ensures.read, asks_some (Nodes c.in-Nodes.most) read.left (sym c.is_empty-in-Nodes.ensures ∙ c.if-is_empty-2.false))
 
 pub returns-then-is_empty-3-clause-read : goal.returns-then-is_empty-3-clause-read

@@ -21,11 +21,14 @@ use Rattle.merkle_wire.proofs.replies.read_values.Goals as goal
 
 -- what is told of a value has some bytes
 some_told : (g : Over) (t : Wanted g.row.K.Denot × Option g.row.V.Denot) → 1 ≤ length (option_bytes g.V.Encode.encoding t.1)
-some_told g t = value_some g.K.Ord.cmp g.V.PartialEq.eq g.K.Encode.encoding g.V.Encode.encoding (key_tells g.K.Ord.cmp g.K.Encode.encoding g.K.PartialEq.eq g.met.K.Ord.matches_eq g.met.K.Decode.told) g.met.V.Decode.told t.1
+some_told g t = value_some g.K.Ord.cmp g.V.PartialEq.eq g.K.Encode.encoding g.V.Encode.encoding
+    (key_tells g.K.Ord.cmp g.K.Encode.encoding g.K.PartialEq.eq g.met.K.Ord.matches_eq g.met.K.Decode.told) g.met.V.Decode.told t.1
 
 -- and tells what stands after it
-same_behind : (g : Over) (wanted : Wanted g.row.K.Denot) (y z : Option g.row.V.Denot) (r s : List ℕ) → ⊤ → IsOption g.V.Decode.is_value z → option_bytes g.V.Encode.encoding y ++ r ≡ option_bytes g.V.Encode.encoding z ++ s → r ≡ s
-same_behind g wanted y z r s _ _ e = (value_tells g.K.Ord.cmp g.V.PartialEq.eq g.K.Encode.encoding g.V.Encode.encoding (key_tells g.K.Ord.cmp g.K.Encode.encoding g.K.PartialEq.eq g.met.K.Ord.matches_eq g.met.K.Decode.told) g.met.V.Decode.told y z r s e).1
+same_behind : (g : Over) (wanted : Wanted g.row.K.Denot) (y z : Option g.row.V.Denot) (r s : List ℕ) → ⊤ → IsOption g.V.Decode.is_value z
+    → option_bytes g.V.Encode.encoding y ++ r ≡ option_bytes g.V.Encode.encoding z ++ s → r ≡ s
+same_behind g wanted y z r s _ _ e = (value_tells g.K.Ord.cmp g.V.PartialEq.eq g.K.Encode.encoding g.V.Encode.encoding
+    (key_tells g.K.Ord.cmp g.K.Encode.encoding g.K.PartialEq.eq g.met.K.Ord.matches_eq g.met.K.Decode.told) g.met.V.Decode.told y z r s e).1
 
 pub keys-init : goal.keys-init
 keys-init g c = record {
@@ -80,7 +83,8 @@ returns-clause-read g c =
     let all = kept.read ∙ ap (λ t. front rows_at_kind ++ (bytes kept.told ++ t)) c.in_ok-end.ensures.ended ∙ ap (λ t. front rows_at_kind ++ t) (append-nil (bytes kept.told)) in (
       kept.told,
       all,
-      λ e. c.in_ok-reader.ensures.some (let same : front rows_at_kind ++ c.in_ok-reader.reader.left.now ≡ front rows_at_kind ++ [] = sym c.in_ok-reader.ensures.read ∙ all ∙ ap (λ t. front rows_at_kind ++ bytes t) e in cc),
+      λ e. c.in_ok-reader.ensures.some (let same : front rows_at_kind ++ c.in_ok-reader.reader.left.now ≡ front rows_at_kind ++ [] = sym c.in_ok-reader.ensures.read ∙ all
+          ∙ ap (λ t. front rows_at_kind ++ bytes t) e in cc),
       sym done ∙ kept.of,
       kept.rows,
     )

@@ -16,7 +16,8 @@ pub rows-preserved : goal.rows-preserved
 rows-preserved g c =
     let wrote = c.in_ok-encode_behind.ensures in
     let rows = c.rows.invariant in
-    let more = written_more (row_behind g.K.Encode.encoding g.V.Encode.encoding) (row_key g.K.Encode.encoding) c.args.run.now c.rows.run c.encode_behind.new.run c.args.rows.now c.rows.row-index c.row-item.result c.args.bytes.now.items
+    let more = written_more (row_behind g.K.Encode.encoding g.V.Encode.encoding)
+    (row_key g.K.Encode.encoding) c.args.run.now c.rows.run c.encode_behind.new.run c.args.rows.now c.rows.row-index c.row-item.result c.args.bytes.now.items
     c.rows.bytes.items c.encode_behind.new.bytes.items c.rows-test.true c.row-item.is rows.1 rows.2 wrote.written wrote.last in
     let written = entries_bytes (row_behind g.K.Encode.encoding g.V.Encode.encoding) (row_key g.K.Encode.encoding) c.args.run.now in
     let HasRoomBehind : ℕ → Type 0 = λ n. length (c.args.bytes.now.items ++ written (take n c.args.rows.now)) < c.args.room in (

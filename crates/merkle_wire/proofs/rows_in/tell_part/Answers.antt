@@ -17,11 +17,13 @@ returns g c =
     let last = bound_key g.K.Encode.encoding [] in
     let entries = written (last c.args.gap.now.after) taken in
     let counted = count_bytes (length taken) in
-    let told = c.deref.ensures.value ∙ c.in_ok-count.ensures.written ∙ ap₂ (λ front state. front ++ written state taken) c.new-part.ensures.items (c.in_ok-run.ensures ∙ ap last c.as_ref.ensures.value) in (
+    let told = c.deref.ensures.value ∙ c.in_ok-count.ensures.written ∙ ap₂ (λ front state. front ++ written state taken) c.new-part.ensures.items
+    (c.in_ok-run.ensures ∙ ap last c.as_ref.ensures.value) in (
       record { rows = taken; whole = nat_eq count (length found) },
       (drop count found, sym c.rows_in-found.ensures ∙ parts.0, parts.1, parts.2),
       c.in_ok-extend_from_slice-2.ensures.items ∙ ap (λ b. c.extend_from_slice.new.self.items ++ b ∷ []) c.byte_of.ensures
-          ∙ ap (λ t. t ++ flag) (c.in_ok-extend_from_slice.ensures.items ∙ ap₂ (λ t u. t ++ u) (c.in_ok-encode_count.ensures ∙ ap (λ n. old ++ count_bytes n) (sym (length-take-le count found c.in_ok-count.ensures.inside))) told
+          ∙ ap (λ t. t ++ flag) (c.in_ok-extend_from_slice.ensures.items ∙ ap₂ (λ t u. t ++ u)
+          (c.in_ok-encode_count.ensures ∙ ap (λ n. old ++ count_bytes n) (sym (length-take-le count found c.in_ok-count.ensures.inside))) told
           ∙ append_assoc old counted entries)
           ∙ append_assoc old (counted ++ entries) flag,
       (

@@ -16,9 +16,11 @@ returns-clause-joined g c = rw g.met.H.RowHasher.laws_are ((
 pub returns-clause-catch_up : goal.returns-clause-catch_up
 returns-clause-catch_up g c = rw g.met.H.RowHasher.laws_are (
     let laws = laws_of g.K.Ord.cmp g.K.KeyBytes.bytes_of g.H.Hasher-1.digest_of g.V.PartialEq.eq g.V.Join.join_of g.H.Hasher-2.digest_of in
-    joined_is_catch_up laws g.met.K.Ord.total g.met.V.Eq.laws g.met.V.Join.joining g.met.H.Hasher-2.respects_eq (side c.args.replica.now) (side c.args.peer.now) c.rows.ensures.ascending c.len-count.result c.join_rows.new.self.rows (rw g.met.H.RowHasher.laws_are at (returns-clause-joined g c)))
+    joined_is_catch_up laws g.met.K.Ord.total g.met.V.Eq.laws g.met.V.Join.joining g.met.H.Hasher-2.respects_eq (side c.args.replica.now)
+    (side c.args.peer.now) c.rows.ensures.ascending c.len-count.result c.join_rows.new.self.rows (rw g.met.H.RowHasher.laws_are at (returns-clause-joined g c)))
 
 pub returns-clause-join : goal.returns-clause-join
 returns-clause-join g c = rw g.met.H.RowHasher.laws_are (
     let laws = laws_of g.K.Ord.cmp g.K.KeyBytes.bytes_of g.H.Hasher-1.digest_of g.V.PartialEq.eq g.V.Join.join_of g.H.Hasher-2.digest_of in
-    joined_joins laws g.met.K.Ord.total g.met.V.Eq.laws g.met.V.Join.joining g.met.H.Hasher-2.respects_eq (side c.args.replica.now) (side c.args.peer.now) c.rows.ensures.ascending c.len-count.result c.join_rows.new.self.rows (rw g.met.H.RowHasher.laws_are at (returns-clause-joined g c)))
+    joined_joins laws g.met.K.Ord.total g.met.V.Eq.laws g.met.V.Join.joining g.met.H.Hasher-2.respects_eq (side c.args.replica.now)
+    (side c.args.peer.now) c.rows.ensures.ascending c.len-count.result c.join_rows.new.self.rows (rw g.met.H.RowHasher.laws_are at (returns-clause-joined g c)))

@@ -36,13 +36,16 @@ exchanges-preserved g c =
     let inv = c.exchanges.invariant in
     let new = c.exchange.ensures in
     let canonical = subst (λ t. IsCanonicalRoot (λ k. level_of (laws.key_digest t.hasher k) t.base) t.root) c.tree.ensures.tree c.every_tree_is_sound.ensures.sound.canonical in
-    let small = subst (HasSmallMap laws g.row.N) (sym (same_side c.args.peer.now c.exchanges.peer inv.peer_rows inv.peer_settings)) (rw g.met.H.RowHasher.laws_are at c.a_replica_in_memory_is_small.ensures) in
-    let covers = covers_since laws g.K.Encode.encoding c.args.replica.now c.exchanges.replica c.args.peer.now c.exchanges.peer inv.rows inv.settings inv.peer_rows inv.peer_settings canonical c.tree.ensures.digests
+    let small = subst (HasSmallMap laws g.row.N) (sym (same_side c.args.peer.now c.exchanges.peer inv.peer_rows inv.peer_settings))
+    (rw g.met.H.RowHasher.laws_are at c.a_replica_in_memory_is_small.ensures) in
+    let covers = covers_since laws g.K.Encode.encoding c.args.replica.now c.exchanges.replica c.args.peer.now c.exchanges.peer inv.rows inv.settings inv.peer_rows
+    inv.peer_settings canonical c.tree.ensures.digests
     c.exchanges.session c.in_ok-rows.field-0 (λ root of covers. (rw g.met.H.RowHasher.laws_are at c.in_ok-rows.ensures.covers) root of small covers) inv.covers in
     let next = subst (CoversNext laws (side c.args.replica.now) (side c.args.peer.now) c.args.peer.now.tree.root g.K.Encode.encoding) c.in-Ask.is covers in
     let local_same = same_side c.args.replica.now c.exchanges.replica inv.rows inv.settings in
     let peer_same = same_side c.args.peer.now c.exchanges.peer inv.peer_rows inv.peer_settings in
-    let steady = while_steady_since laws g.row.N c.args.peer.now c.exchanges.peer inv.peer_rows inv.peer_settings canonical c.tree.ensures.digests (rw g.met.H.RowHasher.laws_are at c.a_replica_in_memory_is_small.ensures) c.exchanges.session
+    let steady = while_steady_since laws g.row.N c.args.peer.now c.exchanges.peer inv.peer_rows inv.peer_settings canonical c.tree.ensures.digests
+    (rw g.met.H.RowHasher.laws_are at c.a_replica_in_memory_is_small.ensures) c.exchanges.session
     (λ s root. SteadyNext laws s root c.in_ok-rows.field-0) (rw g.met.H.RowHasher.laws_are at c.in_ok-rows.ensures.steady) inv.steady in
     let keys = subst (λ s. HasKeysNext laws (side c.args.replica.now) s c.in_ok-rows.field-0) peer_same
     (subst (λ s. HasKeysNext laws s (side c.exchanges.peer) c.in_ok-rows.field-0) local_same ((rw g.met.H.RowHasher.laws_are at c.in_ok-rows.ensures.keys) small)) in
@@ -65,8 +68,10 @@ returns-in-Came-clause-brought g c = rw g.met.H.RowHasher.laws_are (
     let laws = laws_of g.K.Ord.cmp g.K.KeyBytes.bytes_of g.H.Hasher-1.digest_of g.V.PartialEq.eq g.V.Join.join_of g.H.Hasher-2.digest_of in
     let inv = c.exchanges.invariant in
     let canonical = subst (λ t. IsCanonicalRoot (λ k. level_of (laws.key_digest t.hasher k) t.base) t.root) c.tree.ensures.tree c.every_tree_is_sound.ensures.sound.canonical in
-    let small = subst (HasSmallMap laws g.row.N) (sym (same_side c.args.peer.now c.exchanges.peer inv.peer_rows inv.peer_settings)) (rw g.met.H.RowHasher.laws_are at c.a_replica_in_memory_is_small.ensures) in
-    let covers = covers_since laws g.K.Encode.encoding c.args.replica.now c.exchanges.replica c.args.peer.now c.exchanges.peer inv.rows inv.settings inv.peer_rows inv.peer_settings canonical c.tree.ensures.digests
+    let small = subst (HasSmallMap laws g.row.N) (sym (same_side c.args.peer.now c.exchanges.peer inv.peer_rows inv.peer_settings))
+    (rw g.met.H.RowHasher.laws_are at c.a_replica_in_memory_is_small.ensures) in
+    let covers = covers_since laws g.K.Encode.encoding c.args.replica.now c.exchanges.replica c.args.peer.now c.exchanges.peer inv.rows inv.settings inv.peer_rows
+    inv.peer_settings canonical c.tree.ensures.digests
     c.exchanges.session c.in_ok-rows.field-0 (λ root of covers. (rw g.met.H.RowHasher.laws_are at c.in_ok-rows.ensures.covers) root of small covers) inv.covers in
     subst (CoversNext laws (side c.args.replica.now) (side c.args.peer.now) c.args.peer.now.tree.root g.K.Encode.encoding) c.in-Came.is covers)
 
@@ -86,7 +91,8 @@ returns-in_err-rows-clause-memory g c = rw g.met.H.RowHasher.laws_are (
     let p = err_from_is_err_and c.from_residual.result c.from_residual.ensures.1 in
     let fault = c.in_err-rows.field-0.0 in
     rw (p.1, p.2) (subst (λ s. IsForMemory laws s (side c.args.peer.now) g.K.Decode.is_value g.V.Decode.is_value fault) (same_side c.args.replica.now c.exchanges.replica inv.rows inv.settings)
-    (while_steady_since laws g.row.N c.args.peer.now c.exchanges.peer inv.peer_rows inv.peer_settings canonical c.tree.ensures.digests (rw g.met.H.RowHasher.laws_are at c.a_replica_in_memory_is_small.ensures) c.exchanges.session
+    (while_steady_since laws g.row.N c.args.peer.now c.exchanges.peer inv.peer_rows inv.peer_settings canonical c.tree.ensures.digests
+    (rw g.met.H.RowHasher.laws_are at c.a_replica_in_memory_is_small.ensures) c.exchanges.session
     (λ s root. IsForMemory laws (side c.exchanges.replica) s g.K.Decode.is_value g.V.Decode.is_value fault) (rw g.met.H.RowHasher.laws_are at c.in_err-rows.ensures.memory) inv.steady)))
 
 pub exchanges-smaller : goal.exchanges-smaller
@@ -94,6 +100,7 @@ exchanges-smaller g c =
     let laws = laws_of g.K.Ord.cmp g.K.KeyBytes.bytes_of g.H.Hasher-1.digest_of g.V.PartialEq.eq g.V.Join.join_of g.H.Hasher-2.digest_of in
     let inv = c.exchanges.invariant in
     let canonical = subst (λ t. IsCanonicalRoot (λ k. level_of (laws.key_digest t.hasher k) t.base) t.root) c.tree.ensures.tree c.every_tree_is_sound.ensures.sound.canonical in
-    let less = while_steady_since laws g.row.N c.args.peer.now c.exchanges.peer inv.peer_rows inv.peer_settings canonical c.tree.ensures.digests (rw g.met.H.RowHasher.laws_are at c.a_replica_in_memory_is_small.ensures) c.exchanges.session
+    let less = while_steady_since laws g.row.N c.args.peer.now c.exchanges.peer inv.peer_rows inv.peer_settings canonical c.tree.ensures.digests
+    (rw g.met.H.RowHasher.laws_are at c.a_replica_in_memory_is_small.ensures) c.exchanges.session
     (λ s root. LeavesLess laws s root c.exchanges.session c.in_ok-rows.field-0) (rw g.met.H.RowHasher.laws_are at c.in_ok-rows.ensures.less) inv.steady in
     subst (LeavesLess laws (side c.args.peer.now) c.args.peer.now.tree.root c.exchanges.session) c.in-Ask.is less

@@ -13,7 +13,8 @@ use Rattle.merkle_wire.proofs.session.rows_by_messages.Given as goal
 abbrev pub invariant-exchanges : goal.invariant-exchanges
 invariant-exchanges g l = record {
   asks : l.message.items ≡ question_bytes g.K.Encode.encoding l.session.asked;
-  covers : Covers (laws_of g.K.Ord.cmp g.K.KeyBytes.bytes_of g.H.Hasher-1.digest_of g.V.PartialEq.eq g.V.Join.join_of g.H.Hasher-2.digest_of) (side l.fn.replica) (side l.fn.peer) l.fn.peer.tree.root l.session;
+  covers : Covers (laws_of g.K.Ord.cmp g.K.KeyBytes.bytes_of g.H.Hasher-1.digest_of g.V.PartialEq.eq g.V.Join.join_of g.H.Hasher-2.digest_of) (side l.fn.replica)
+      (side l.fn.peer) l.fn.peer.tree.root l.session;
   steady : IsSteady (laws_of g.K.Ord.cmp g.K.KeyBytes.bytes_of g.H.Hasher-1.digest_of g.V.PartialEq.eq g.V.Join.join_of g.H.Hasher-2.digest_of) (side l.fn.peer) l.fn.peer.tree.root l.session;
   keys : HasKeysOfSides (laws_of g.K.Ord.cmp g.K.KeyBytes.bytes_of g.H.Hasher-1.digest_of g.V.PartialEq.eq g.V.Join.join_of g.H.Hasher-2.digest_of) (side l.fn.replica) (side l.fn.peer) l.session;
   own : TellsOwn (laws_of g.K.Ord.cmp g.K.KeyBytes.bytes_of g.H.Hasher-1.digest_of g.V.PartialEq.eq g.V.Join.join_of g.H.Hasher-2.digest_of) g.row.N (side l.replica) l.session.asked;

@@ -32,7 +32,8 @@ nodes-preserved g c =
       ds = kept.ds ++ own ∷ [];
       there = ap (map at) (map_more (λ b. b.1.key) c.args.nodes.now c.nodes.node-index node c.nodes-test.true c.node-item.is) ∙ map-append at keys _
           ∙ ap₂ (λ xs ys. xs ++ ys) kept.there (ap (λ o. o ∷ []) found) ∙ sym (map-append Some kept.ds (own ∷ []));
-      written = subst (Holds c.write.new.self zero_key) (ap (λ b. flat_map (λ d. d) kept.ds ++ b) (c.as_bytes.ensures ∙ sym (append-nil own)) ∙ sym (flat_map-append (λ (d : List ℕ). d) kept.ds (own ∷ [])))
+      written = subst (Holds c.write.new.self zero_key)
+          (ap (λ b. flat_map (λ d. d) kept.ds ++ b) (c.as_bytes.ensures ∙ sym (append-nil own)) ∙ sym (flat_map-append (λ (d : List ℕ). d) kept.ds (own ∷ [])))
           (c.write.ensures zero_key (flat_map (λ d. d) kept.ds) kept.written);
     }
 
@@ -68,7 +69,8 @@ returns-in-None-clause-lacked g c = rw g.met.H.RowHasher.laws_are (λ e rows kep
     let tree = (g.T.KeptTree.kept c.args.tree.now).digests in
     let of = same_get g.K.Ord.cmp g.met.K.Ord.total tree.map (tree_map laws (side_of tree rows)) kept in
     let node = c.node-item.result in
-    let none : get g.K.Ord.cmp tree.map node.1.key ≡ None = sym (subst (λ t. c.in_ok-digest_at.field-0 ≡ get g.K.Ord.cmp t.digests.map node.1.key) c.nodes.invariant.kept c.in_ok-digest_at.ensures.digest) ∙ c.in-None.is in
+    let none : get g.K.Ord.cmp tree.map node.1.key ≡ None =
+    sym (subst (λ t. c.in_ok-digest_at.field-0 ≡ get g.K.Ord.cmp t.digests.map node.1.key) c.nodes.invariant.kept c.in_ok-digest_at.ensures.digest) ∙ c.in-None.is in
     none_at (get g.K.Ord.cmp tree.map) (λ b. b.1.key) c.args.nodes.now c.nodes.node-index node c.nodes-test.true c.node-item.is
     none ds (same_all of (below_keys c.args.nodes.now) ∙ own))
 

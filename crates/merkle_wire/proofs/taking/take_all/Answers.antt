@@ -25,7 +25,8 @@ rows-preserved g c =
       left = given.0;
       count = given.1;
       kept = c.has_value.ensures.kept ∙ kept.kept;
-      taken = λ rows of. rows-more laws (side_of (g.T.KeptTree.kept c.args.tree.now).digests rows) c.args.work.now c.rows.work c.take_row.new.self c.rows.yielded (r ∷ []) (kept.taken rows of) (rw (there rows of) at c.in_ok-take_row.ensures);
+      taken = λ rows of. rows-more laws (side_of (g.T.KeptTree.kept c.args.tree.now).digests rows) c.args.work.now c.rows.work c.take_row.new.self c.rows.yielded (r ∷ [])
+          (kept.taken rows of) (rw (there rows of) at c.in_ok-take_row.ensures);
     }
 
 pub returns-clause-taken : goal.returns-clause-taken

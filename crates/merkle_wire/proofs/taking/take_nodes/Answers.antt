@@ -38,4 +38,5 @@ pub returns-clause-taken : goal.returns-clause-taken
 returns-clause-taken g c = λ rows of.
     let laws = g.H.RowHasher.laws in
     let done = all_yielded c.nodes.yielded (into_iter_items c.nodes.node-iterator) c.args.nodes.items c.nodes.invariant.left (sym c.nodes.invariant.count ∙ c.in-None.ensures.steps.0) in
-    c.nodes.invariant.taken rows of ∙ ap (λ ns. record c.args.work.now { wanted = c.args.work.now.wanted ++ new_keys laws (side_of (g.T.KeptTree.kept c.args.tree.now).digests rows) (nodes_read ns) }) done
+    c.nodes.invariant.taken rows of ∙ ap (λ ns.
+    record c.args.work.now { wanted = c.args.work.now.wanted ++ new_keys laws (side_of (g.T.KeptTree.kept c.args.tree.now).digests rows) (nodes_read ns) }) done

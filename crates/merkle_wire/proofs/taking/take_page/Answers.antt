@@ -12,7 +12,8 @@ use Rattle.merkle_wire.proofs.taking.take_page.Goals.{In_ok-take_pages}
 
 -- the page is taken once its nodes are noted or added
 taken : (g : Over) (c : In_ok-take_pages g) (nodes : List (Gap g.row.K.Denot)) (after : Found g.row.K.Denot g.row.V.Denot)
-    → ForRowsOf g.H.RowHasher.laws (g.T.KeptTree.kept c.args.tree.now).digests (λ local. AreNewNodes g.H.RowHasher.laws local (owned_gap c.args.gap.now) (page_keys c.args.page.now) c.args.page.now.digest nodes)
+    → ForRowsOf g.H.RowHasher.laws (g.T.KeptTree.kept c.args.tree.now).digests
+    (λ local. AreNewNodes g.H.RowHasher.laws local (owned_gap c.args.gap.now) (page_keys c.args.page.now) c.args.page.now.digest nodes)
     → after ≡ record c.take_pages.new.work { nodes = c.take_pages.new.work.nodes ++ nodes }
     → ForRowsOf g.H.RowHasher.laws (g.T.KeptTree.kept c.args.tree.now).digests (λ local. IsTaken g.H.RowHasher.laws local (owned_gap c.args.gap.now) (page_read c.args.page.now) c.args.work.now after)
 taken g c nodes after own adds = λ rows of.
@@ -24,7 +25,8 @@ returns-then-branch-clause-taken g c =
     let laws = g.H.RowHasher.laws in
     let page = c.args.page.now in
     let work = c.take_pages.new.work in
-    let there = subst (λ t. ForRowsOf laws t.digests (λ local. HasNodes laws local (page_keys page) page.digest)) c.take_pages.ensures.kept (rw c.deref-2.ensures.value at (c.in_ok-has_nodes.ensures.there c.if-branch.true)) in
+    let there = subst (λ t. ForRowsOf laws t.digests (λ local. HasNodes laws local (page_keys page) page.digest)) c.take_pages.ensures.kept
+    (rw c.deref-2.ensures.value at (c.in_ok-has_nodes.ensures.there c.if-branch.true)) in
     taken g (goal.at.returns-then-branch-clause-taken g c).In_ok-take_pages [] c.note_same.new.self (λ rows of. inl (refl, there rows of))
     (c.note_same.ensures ∙ (λ i. record work { nodes = sym (append-nil work.nodes) i }))
 
@@ -32,6 +34,7 @@ pub returns-clause-taken : goal.returns-clause-taken
 returns-clause-taken g c =
     let laws = g.H.RowHasher.laws in
     let page = c.args.page.now in
-    let lacked = subst (λ t. ForRowsOf laws t.digests (λ local. ¬ HasNodes laws local (page_keys page) page.digest)) c.take_pages.ensures.kept (rw c.deref-2.ensures.value at (c.in_ok-has_nodes.ensures.lacked c.if-branch.false)) in
+    let lacked = subst (λ t. ForRowsOf laws t.digests (λ local. ¬ HasNodes laws local (page_keys page) page.digest)) c.take_pages.ensures.kept
+    (rw c.deref-2.ensures.value at (c.in_ok-has_nodes.ensures.lacked c.if-branch.false)) in
     taken g (goal.at.returns-clause-taken g c).In_ok-take_pages (owned_gap c.in_ok-own.own ∷ []) c.add_nodes.new.self
     (λ rows of. inr (rw g.met.H.RowHasher.laws_are (rw (c.as_ref.ensures.value, c.as_ref-2.ensures.value) at c.in_ok-own.ensures), lacked rows of)) c.in_ok-add_nodes.ensures

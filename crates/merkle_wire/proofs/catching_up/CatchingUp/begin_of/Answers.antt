@@ -18,4 +18,5 @@ returns-clause-keys g c = rw g.met.H.RowHasher.laws_are (
     let settings = c.in_ok-settings_of.field-0 in
     IfOk-weaker c.begin.result (λ begun. begun.0.asked ≡ Root settings) (λ begun. ForItsRows laws tree (λ local. IsQuestion (IsKeyOf cmp local.rows) begun.0.asked))
     (λ begun is rows of. subst (IsQuestion (IsKeyOf cmp rows)) (sym is)
-    (question_read (IsKeyOf cmp (map_of tree)) (IsKeyOf cmp rows) (key_of_rows laws g.met.K.Ord.total (digests_of tree) rows of) (Root settings) c.in_ok-settings_of.ensures.keys)) c.begin.ensures.asked)
+    (question_read (IsKeyOf cmp (map_of tree)) (IsKeyOf cmp rows) (key_of_rows laws g.met.K.Ord.total (digests_of tree) rows of)
+    (Root settings) c.in_ok-settings_of.ensures.keys)) c.begin.ensures.asked)

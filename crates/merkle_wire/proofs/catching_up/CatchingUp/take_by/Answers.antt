@@ -20,14 +20,16 @@ laws_at g = laws_of g.K.Ord.cmp g.K.KeyBytes.bytes_of g.H.Hasher-1.digest_of g.V
 taken : (g : Over) (c : In-Ok g) → ForRowsOf (laws_at g) (g.T.KeptTree.kept c.args.tree.now).digests
     (λ local. HasTaken (laws_at g) g.row.N g.K.Encode.encoding g.V.Encode.encoding local c.self.inside.asked c.args.reply.now c.self.inside.work c.take_reply.new.work c.in_ok-came.again)
 taken g c rows of =
-    has_taken (laws_at g) g.row.N g.K.Encode.encoding g.V.Encode.encoding (side_of (g.T.KeptTree.kept c.args.tree.now).digests rows) c.self.inside.asked c.args.reply.now c.in_ok-came.came c.in_ok-came.again c.self.inside.work c.take_reply.new.work
+    has_taken (laws_at g) g.row.N g.K.Encode.encoding g.V.Encode.encoding (side_of (g.T.KeptTree.kept c.args.tree.now).digests rows) c.self.inside.asked c.args.reply.now
+    c.in_ok-came.came c.in_ok-came.again c.self.inside.work c.take_reply.new.work
     c.in_ok-came.ensures.read ((rw g.met.H.RowHasher.laws_are at c.in-Ok.ensures.taken) rows of)
 
 pub returns-in_ok-ask-in-Some-clause-next : goal.returns-in_ok-ask-in-Some-clause-next
 returns-in_ok-ask-in-Some-clause-next g c = rw g.met.H.RowHasher.laws_are (λ rows of.
     let local = side_of (g.T.KeptTree.kept c.args.tree.now).digests rows in
     let inside : Underway g.row.K.Denot g.row.V.Denot = record { asked = c.self.inside.asked; found = c.self.inside.work; rounds = c.self.inside.rounds; left = c.self.inside.left } in
-    is_next (laws_at g) g.row.N g.K.Encode.encoding g.V.Encode.encoding local local c.args.self inside c.args.reply.now c.take_reply.new.work (Some c.in-Some.question) c.in_ok-came.again c.in_ok-ask-in-Some.field-0
+    is_next (laws_at g) g.row.N g.K.Encode.encoding g.V.Encode.encoding local local c.args.self inside c.args.reply.now c.take_reply.new.work
+    (Some c.in-Some.question) c.in_ok-came.again c.in_ok-ask-in-Some.field-0
     refl c.self.view_is c.in-Some.is (taken g (goal.at.returns-in_ok-ask-in-Some-clause-next g c).In-Ok rows of) c.in_ok-ask-in-Some.ensures.asked)
 
 pub returns-in_ok-go_on-in-None-clause-next : goal.returns-in_ok-go_on-in-None-clause-next
@@ -39,18 +41,21 @@ returns-in_ok-go_on-in-None-clause-next g c = rw g.met.H.RowHasher.laws_are (λ 
 
 pub returns-in_ok-ask-in-Some-clause-asked_for : goal.returns-in_ok-ask-in-Some-clause-asked_for
 returns-in_ok-ask-in-Some-clause-asked_for g c = rw g.met.H.RowHasher.laws_are (λ rows of.
-    only_asked (laws_at g) g.met.K.Ord.total g.row.N g.K.Encode.encoding g.V.Encode.encoding (side_of (g.T.KeptTree.kept c.args.tree.now).digests rows) c.args.self c.args.reply.now c.in_ok-ask-in-Some.field-0
+    only_asked (laws_at g) g.met.K.Ord.total g.row.N g.K.Encode.encoding g.V.Encode.encoding
+    (side_of (g.T.KeptTree.kept c.args.tree.now).digests rows) c.args.self c.args.reply.now c.in_ok-ask-in-Some.field-0
     ((rw g.met.H.RowHasher.laws_are at (returns-in_ok-ask-in-Some-clause-next g c)) rows of))
 
 pub returns-in_ok-go_on-in-None-clause-asked_for : goal.returns-in_ok-go_on-in-None-clause-asked_for
 returns-in_ok-go_on-in-None-clause-asked_for g c = rw g.met.H.RowHasher.laws_are (λ rows of.
-    only_asked (laws_at g) g.met.K.Ord.total g.row.N g.K.Encode.encoding g.V.Encode.encoding (side_of (g.T.KeptTree.kept c.args.tree.now).digests rows) c.args.self c.args.reply.now c.in_ok-go_on-in-None.field-0
+    only_asked (laws_at g) g.met.K.Ord.total g.row.N g.K.Encode.encoding g.V.Encode.encoding
+    (side_of (g.T.KeptTree.kept c.args.tree.now).digests rows) c.args.self c.args.reply.now c.in_ok-go_on-in-None.field-0
     ((rw g.met.H.RowHasher.laws_are at (returns-in_ok-go_on-in-None-clause-next g c)) rows of))
 
 pub returns-in_err-came-clause-ended : goal.returns-in_err-came-clause-ended
 returns-in_err-came-clause-ended g c = rw g.met.H.RowHasher.laws_are (
     let p = err_from_is_err_and c.from_residual-in_err-came.result c.from_residual-in_err-came.ensures.1 in
-    rw (p.1, p.2) (λ rows of. refused_stops (laws_at g) g.row.N g.K.Encode.encoding g.V.Encode.encoding g.K.Decode.is_value g.V.Decode.is_value (side_of (g.T.KeptTree.kept c.args.tree.now).digests rows) c.args.self c.args.reply.now c.in_err-came.field-0.0
+    rw (p.1, p.2) (λ rows of. refused_stops (laws_at g) g.row.N g.K.Encode.encoding g.V.Encode.encoding g.K.Decode.is_value g.V.Decode.is_value
+    (side_of (g.T.KeptTree.kept c.args.tree.now).digests rows) c.args.self c.args.reply.now c.in_err-came.field-0.0
     (rw (ap (λ s. s.asked) c.self.view_is) at c.in_err-came.ensures.refused)))
 
 pub returns-in_err-check_rows-clause-ended : goal.returns-in_err-check_rows-clause-ended
@@ -58,13 +63,16 @@ returns-in_err-check_rows-clause-ended g c = rw g.met.H.RowHasher.laws_are (
     let p = err_from_is_err_and c.from_residual-in_err-check_rows.result c.from_residual-in_err-check_rows.ensures.1 in
     let inside : Underway g.row.K.Denot g.row.V.Denot = record { asked = c.self.inside.asked; found = c.self.inside.work; rounds = c.self.inside.rounds; left = c.self.inside.left } in
     rw (p.1, p.2) (λ rows of. let local = side_of (g.T.KeptTree.kept c.args.tree.now).digests rows in
-    over_stops (laws_at g) g.row.N g.K.Encode.encoding g.V.Encode.encoding g.K.Decode.is_value g.V.Decode.is_value local local c.args.self inside c.args.reply.now c.take_reply.new.work c.in_ok-came.again c.in_ok-left.left
-    c.row_count.result c.in_err-check_rows.field-0.0 refl c.self.view_is (taken g (goal.at.returns-in_err-check_rows-clause-ended g c).In-Ok rows of) c.in_ok-left.ensures.left.rows c.row_count.ensures c.in_err-check_rows.ensures.over))
+    over_stops (laws_at g) g.row.N g.K.Encode.encoding g.V.Encode.encoding g.K.Decode.is_value g.V.Decode.is_value local local c.args.self inside c.args.reply.now
+    c.take_reply.new.work c.in_ok-came.again c.in_ok-left.left
+    c.row_count.result c.in_err-check_rows.field-0.0 refl c.self.view_is (taken g (goal.at.returns-in_err-check_rows-clause-ended g c).In-Ok rows of)
+    c.in_ok-left.ensures.left.rows c.row_count.ensures c.in_err-check_rows.ensures.over))
 
 pub returns-in_err-go_on-in-None-clause-ended : goal.returns-in_err-go_on-in-None-clause-ended
 returns-in_err-go_on-in-None-clause-ended g c = rw g.met.H.RowHasher.laws_are (
     let p = err_from_is_err_and c.from_residual-in_err-go_on-in-None.result c.from_residual-in_err-go_on-in-None.ensures.1 in
     let inside : Underway g.row.K.Denot g.row.V.Denot = record { asked = c.self.inside.asked; found = c.self.inside.work; rounds = c.self.inside.rounds; left = c.self.inside.left } in
     rw (p.1, p.2) (λ rows of. let local = side_of (g.T.KeptTree.kept c.args.tree.now).digests rows in
-    is_stopped (laws_at g) g.row.N g.K.Encode.encoding g.V.Encode.encoding g.K.Decode.is_value g.V.Decode.is_value local local c.args.self inside c.args.reply.now c.take_reply.new.work c.in_ok-came.again c.in_err-go_on-in-None.field-0.0
+    is_stopped (laws_at g) g.row.N g.K.Encode.encoding g.V.Encode.encoding g.K.Decode.is_value g.V.Decode.is_value local local c.args.self inside c.args.reply.now
+    c.take_reply.new.work c.in_ok-came.again c.in_err-go_on-in-None.field-0.0
     refl c.self.view_is c.in-None.is (taken g (goal.at.returns-in_err-go_on-in-None-clause-ended g c).In-Ok rows of) c.in_err-go_on-in-None.ensures.ended))

@@ -9,7 +9,8 @@ use Rattle.merkle_wire.proofs.gaps.OwnedGapDecodeInRun.decode_behind.Goals as go
 pub returns-in_err-before-clause-refused : goal.returns-in_err-before-clause-refused
 returns-in_err-before-clause-refused g c =
     let p = err_from_is_err_and c.from_residual-in_err-before.result c.from_residual-in_err-before.ensures.1 in
-    rw (p.1, p.2) (refused_later c.args.reader.now.total c.args.reader.now.left.now (bound_behind g.K.Encode.encoding c.args.run.now c.in_ok-after.after) c.decode_behind.new.reader.left.now c.in_err-before.field-0.0 c.in_ok-after.ensures.read
+    rw (p.1, p.2) (refused_later c.args.reader.now.total c.args.reader.now.left.now
+    (bound_behind g.K.Encode.encoding c.args.run.now c.in_ok-after.after) c.decode_behind.new.reader.left.now c.in_err-before.field-0.0 c.in_ok-after.ensures.read
     (total_was c.decode_behind.new.reader.total c.args.reader.now.total c.decode_behind.new.reader.left.now c.in_err-before.field-0.0 c.decode_behind.ensures.total c.in_err-before.ensures.refused))
 
 pub returns-in_err-before-clause-malformed : goal.returns-in_err-before-clause-malformed

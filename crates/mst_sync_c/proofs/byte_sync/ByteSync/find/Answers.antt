@@ -15,4 +15,5 @@ returns-in-None c =
 pub returns : goal.returns
 returns c =
     let tree = c.args.self.now.tree in let key = c.in_ok-own_key.own_key in
-    ap Some c.as_bytes.ensures ∙ ap (option_map (λ digest. digest.now)) (sym c.in-Some.is) ∙ c.value_hash.ensures ∙ pairs_get (map_of tree) key ∙ ap (get bytes_cmp (pairs_of tree)) c.in_ok-own_key.ensures.items
+    ap Some c.as_bytes.ensures ∙ ap (option_map (λ digest. digest.now)) (sym c.in-Some.is) ∙ c.value_hash.ensures ∙ pairs_get (map_of tree) key
+    ∙ ap (get bytes_cmp (pairs_of tree)) c.in_ok-own_key.ensures.items

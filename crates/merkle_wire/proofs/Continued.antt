@@ -2,7 +2,7 @@
 use Rattle.std.proofs.Common.{◌≡◌, ◌≢◌, ℕ, ◌+◌, ◌<◌, ◌≤◌, ◌⊎◌, inl, inr, List, [], ◌∷◌, ◌++◌, length, drop, get_or, map, refl, ap, sym, subst, ◌∙◌, arith}
 use Rattle.std.specs.List.{AllByRecursion, flat_map}
 use Rattle.std.proofs.lemmas.List.{append_assoc, append-nil, drop_all, drop_more}
-use Rattle.merkle_wire.specs.Replies.{Answers, IsFull, TellsWhatFits}
+use Rattle.merkle_wire.specs.Replies.{TellsFirst, IsFull, TellsWhatFits}
 
 module _ {X Y : Type 0} (P : X → Y → Type 0) (bytes : X × Y → List ℕ) (Fits : List ℕ → X × Y → Type 0) (most : ℕ) where
   -- a reply that begins so tells of what was asked for what fits, and P holds of each entry
@@ -34,7 +34,8 @@ module _ {X Y : Type 0} (P : X → Y → Type 0) (bytes : X × Y → List ℕ) (
   abbrev pub IsContinued : List X → List ℕ → ℕ → List ℕ → Type 0
   IsContinued asked begun i now = (reply : List ℕ) → IsTelling (drop i asked) now reply → IsTelling asked begun reply
 
-  pub continued_more : (asked : List X) (begun now new : List ℕ) (i : ℕ) (x : X) (y : Y) → i < length asked → x ≡ get_or asked i x → IsContinued asked begun i now → P x y → Fits now (x, y) → new ≡ now ++ bytes (x, y)
+  pub continued_more : (asked : List X) (begun now new : List ℕ) (i : ℕ) (x : X) (y : Y) → i < length asked → x ≡ get_or asked i x → IsContinued asked begun i now → P x y
+      → Fits now (x, y) → new ≡ now ++ bytes (x, y)
       → IsContinued asked begun (i + 1) new
   continued_more asked begun now new i x y low is on p fit put reply t =
       on reply (subst (λ xs. IsTelling xs now reply) (sym (drop_more asked i x low ∙ ap (λ z. z ∷ drop (i + 1) asked) (sym is)))
@@ -47,7 +48,7 @@ module _ {X Y : Type 0} (P : X → Y → Type 0) (bytes : X × Y → List ℕ) (
   continued_all asked begun now i on all = on now (told_upto (drop i asked) now (inl (drop_all i asked all)))
 
   -- after a front of two bytes that answers, since at least one entry is told
-  pub telling_answers : (asked : List X) (begun reply : List ℕ) → length begun ≡ 2 → IsTelling asked begun reply → (told : List (X × Y)) × Answers P asked told × (reply ≡ begun ++ flat_map bytes told)
+  pub telling_answers : (asked : List X) (begun reply : List ℕ) → length begun ≡ 2 → IsTelling asked begun reply → (told : List (X × Y)) × TellsFirst P asked told × (reply ≡ begun ++ flat_map bytes told)
   telling_answers asked begun reply two t = (t.fits.told, record { left = t.fits.left; begins = t.fits.begins; some = some; each = t.holds }, t.fits.is)
     where
       some : asked ≢ [] → t.fits.told ≢ []

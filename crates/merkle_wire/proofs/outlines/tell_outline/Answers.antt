@@ -3,7 +3,7 @@ use Rattle.merkle_search_tree.specs.Items.{items}
 use Rattle.merkle_wire.specs.Nodes.{node_pairs}
 use Rattle.merkle_wire.specs.Outlines.{page_told, nodes_digest, keys_among, keys_told, nodes_among, pages_beside, pages_bytes}
 use Rattle.merkle_wire.proofs.ToldAlone.{told_alone}
-use Rattle.merkle_wire.proofs.outlines.tell_items.Goals as goal
+use Rattle.merkle_wire.proofs.outlines.tell_outline.Goals as goal
 
 pub returns-then-are_told : goal.returns-then-are_told
 returns-then-are_told g c =
