@@ -36,7 +36,7 @@ use crate::{
     granted, list,
     settings::Settings,
     sys::{self, Refused},
-    wire::{self, unexpected},
+    wire::{self, unexpected, Bounds, TOO_LONG},
     OutOfMemory,
 };
 use std::{
@@ -396,7 +396,7 @@ fn ask_all<E: From<io::Error>>(
     for _ in 0..limits.messages {
         wire::send(connection, &question)?;
         left = less(left, question.len())?;
-        let reply = wire::take(connection, limits.bytes.min(left))?;
+        let reply = wire::take(connection, Bounds { message: limits.bytes, session: left })?;
         left = less(left, reply.len())?;
         match take(&reply)? {
             Step::Ask(next) => question = next,
@@ -442,7 +442,7 @@ pub(crate) fn answering<E: From<io::Error>>(
 ) -> Result<usize, E> {
     let (mut answered, mut left) = (0, limits.session_bytes);
     loop {
-        let reply = match wire::take_or_end(connection, limits.bytes.min(left)) {
+        let reply = match wire::take_or_end(connection, Bounds { message: limits.bytes, session: left }) {
             Ok(None) => return Ok(answered),
             Ok(Some(question)) if question.is_empty() => return Ok(answered),
             Ok(Some(_)) if answered == limits.messages => Err(unexpected(TOO_MANY).into()),
@@ -472,7 +472,6 @@ fn less(left: u64, bytes: usize) -> io::Result<u64> {
 }
 
 const TOO_MANY: &str = "the peer isn't done after as many questions as the limit allows";
-const TOO_LONG: &str = "the messages have more bytes together than the limit allows";
 pub(crate) const TOO_MANY_ROWS: &str = "more rows came than the limit allows";
 
 /// All rows are taken first, and put in the order of their keys, which is the fast one.

@@ -172,6 +172,28 @@ fn within(asks: Limits, answers: Limits, ours: &mut impl Side, theirs: &mut impl
 }
 
 #[test]
+fn a_peer_that_ends_early_is_told_as_one() {
+    for said in [&[][..], &[9, 0, 0], &[9, 0, 0, 0, 0, 0, 0, 0, 1]] {
+        let (mut connection, mut peer) = UnixStream::pair().unwrap();
+        peer.write_all(said).unwrap();
+        peer.shutdown(Shutdown::Write).unwrap();
+        let error = Store::new(&every(2, 300)).catch_up(&mut connection).unwrap_err();
+        assert_eq!(
+            (error.kind(), &*error.to_string()),
+            (ErrorKind::UnexpectedEof, "the peer ended before it was done")
+        );
+    }
+}
+
+#[test]
+fn a_bound_on_the_bytes_of_a_session_is_told_as_one() {
+    let limits = Limits { session_bytes: 1000, ..Limits::default() };
+    let (mut ours, mut theirs) = (Store::new(&every(2, 300)), Store::new(&every(3, 300)));
+    let ended = within(limits, Limits::default(), &mut ours, &mut theirs);
+    assert_eq!(ended.unwrap_err().to_string(), "the messages have more bytes together than the limit allows");
+}
+
+#[test]
 fn bounds_on_the_bytes_and_the_rows_of_a_session() {
     let (left, right) = (every(2, 300), every(3, 300));
     let all = Limits::default();
