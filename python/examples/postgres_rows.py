@@ -20,10 +20,11 @@ JOIN = ("INSERT INTO rows SELECT * FROM unnest(%s::bytea[], %s::bytea[]) ON CONF
 
 
 class Rows:
-    """A table of PostgreSQL. Threads use the connection by turns, which psycopg sees to."""
+    """A table of PostgreSQL. Threads use the connection by turns: none reads what another hasn't committed yet."""
 
     def __init__(self, config: str) -> None:
         self._config = config
+        self._lock = threading.Lock()
         self._connection = psycopg.connect(config, autocommit=True)
         self._connection.execute(TABLE)
 
@@ -33,22 +34,26 @@ class Rows:
             self._connection = psycopg.connect(self._config, autocommit=True)
         return self._connection
 
+    def _read(self, statement: str, *words: bytes) -> "List[Any]":
+        with self._lock:
+            return self._connected().execute(statement, words).fetchall()
+
     def get(self, key: bytes) -> "Optional[bytes]":
-        found = self._connected().execute(ONE, (key,)).fetchone()
-        return found[0] if found else None
+        found = self._read(ONE, key)
+        return found[0][0] if found else None
 
     def scan(self, first: bytes, end: "Optional[bytes]") -> "Iterator[Tuple[bytes, bytes]]":
         """The rows, a hundred at a time. PostgreSQL orders `bytea` by its bytes, as a tree does."""
         statement, below = (FROM, ()) if end is None else (BETWEEN, (end,))
-        while some := self._connected().execute(statement, (first, *below)).fetchall():
+        while some := self._read(statement, first, *below):
             yield from some
             first = some[-1][0] + b"\0"
 
     def join(self, came: "List[Tuple[bytes, bytes]]") -> "List[Tuple[bytes, bytes]]":
-        connection = self._connected()
-        with connection.transaction():
+        keys, values = [key for key, _ in came], [value for _, value in came]
+        with self._lock, self._connected().transaction():
             # (the other statements of the program's transaction go here)
-            joined: "List[Tuple[bytes, bytes]]" = connection.execute(JOIN, ([key for key, _ in came], [value for _, value in came])).fetchall()
+            joined: "List[Tuple[bytes, bytes]]" = self._connection.execute(JOIN, (keys, values)).fetchall()
         return joined
 
 

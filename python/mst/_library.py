@@ -68,8 +68,10 @@ class _Range(ctypes.Structure):
 
 def _find() -> str:
     """The library: the file of the variable MST_LIBRARY, else that of the package, else that of a checkout's folder c."""
-    here = os.path.dirname(os.path.abspath(__file__))
-    for path in [os.environ.get("MST_LIBRARY"), os.path.join(here, "libmst.so"), os.path.join(here, "..", "..", "c", "libmst.so")]:
+    here, named = os.path.dirname(os.path.abspath(__file__)), os.environ.get("MST_LIBRARY")
+    if named and not os.path.isfile(named):
+        raise ImportError(f"MST_LIBRARY names {named}, which isn't a file")
+    for path in [named, os.path.join(here, "libmst.so"), os.path.join(here, "..", "..", "c", "libmst.so")]:
         if path and os.path.isfile(path):
             return path
     raise ImportError("libmst.so isn't there: install the wheel of a release, which has it; or run c/build in a checkout; or set MST_LIBRARY to "

@@ -52,6 +52,11 @@ class Package(unittest.TestCase):
         # by tests/store_peers
         self.assertEqual(len(glob.glob(os.path.join(HERE, "..", "examples", "*.py"))), 7)
 
+    def test_a_library_that_is_not_there(self):
+        env = {**os.environ, "PYTHONPATH": os.pathsep.join(sys.path), "MST_LIBRARY": "/nowhere"}
+        done = subprocess.run([sys.executable, "-B", "-c", "import mst"], env=env, capture_output=True, text=True, timeout=60, check=False)
+        self.assertIn("ImportError: MST_LIBRARY names /nowhere, which isn't a file", done.stderr)
+
     def test_the_wheel_has_no_link_out_of_it(self):
         with tempfile.TemporaryDirectory() as folder:
             sys.path.insert(0, os.path.join(HERE, ".."))

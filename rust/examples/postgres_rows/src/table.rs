@@ -14,7 +14,9 @@ const WAIT: Duration = Duration::from_secs(30);
 /// How many rows one statement reads or writes.
 const PIECE: usize = 1000;
 /// PostgreSQL orders `bytea` by its bytes, as a tree does; a column of type `text` needs `COLLATE "C"`.
-const TABLE: &str = "CREATE TABLE IF NOT EXISTS rows (key bytea PRIMARY KEY, value bytea NOT NULL)";
+/// The lock waits for the commits that are running: one whose connection was lost may still end, and the tree that is loaded then needs its rows.
+const TABLE: &str = "CREATE TABLE IF NOT EXISTS rows (key bytea PRIMARY KEY, value bytea NOT NULL);
+    BEGIN; LOCK TABLE rows IN SHARE MODE; COMMIT";
 const VALUE: &str = "SELECT value FROM rows WHERE key = $1";
 const FROM: &str = "SELECT key, value FROM rows WHERE key >= $1 ORDER BY key LIMIT 1000";
 const BETWEEN: &str = "SELECT key, value FROM rows WHERE key >= $1 AND key < $2 ORDER BY key LIMIT 1000";
