@@ -59,7 +59,7 @@ def check(status: int, joined: int = 0) -> None:
     if status == DONE:
         return
     if status == REFUSED:
-        raise RefusedError("the peer rejected the request: it may have other settings")
+        raise RefusedError("the peer rejected the request: it may have other settings, or met a limit of its own")
     if status == MALFORMED:
         raise MalformedError("the peer's reply isn't one to what was asked")
     if joined:

@@ -166,7 +166,8 @@ pub trait Rows {
     fn value(&mut self, key: &[u8]) -> Result<Option<Vec<u8>>, Self::Error>;
 
     /// Gives the rows in a range, in the order of the bytes of their keys, until `give` says that no more are wanted. In SQL these are the rows
-    /// with `key >= first AND key < end`. A reply wants some 16 MiB of rows at most, so read no more of them than are taken.
+    /// with `key >= first AND key < end`; either bound may be a key with a byte 0 after it. A reply wants some 16 MiB of rows at most, so read no more
+    /// of them than are taken.
     fn rows_in(&mut self, range: Range<'_>, give: &mut Give<'_>) -> Result<(), Self::Error>;
 
     /// Joins rows that came with those that are there, in one transaction: all of them, or none if it fails. It returns the rows that it
