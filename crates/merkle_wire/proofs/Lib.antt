@@ -54,6 +54,7 @@ pub mod ItsSides
 pub mod AskedNext
 pub mod SteadyCatchUps
 pub mod RowsCounted
+pub mod Lengths
 pub mod SessionEnds
 pub mod PartsFilled
 pub mod PagesLacked

@@ -1,14 +1,12 @@
 -- A session with an honest peer comes to its end: each exchange leaves less to ask for.
 use Rattle.std.specs.Prelude.{⊤}
-use Rattle.std.proofs.Common.{◌≡◌, ◌≢◌, ℕ, ◌+◌, ◌*◌, ◌≤◌, Bool, true, false, not, List, [], ◌∷◌, ◌++◌, length, map, flat_map, Option, Some, None, refl, sym, ap, subst, ◌∙◌, ◌⊎◌, inl, inr, arith}
+use Rattle.std.proofs.Common.{◌≡◌, ℕ, ◌+◌, ◌*◌, ◌≤◌, Bool, true, false, not, List, [], ◌∷◌, ◌++◌, length, map, flat_map, Option, Some, None, refl, sym, ap, subst, ◌∙◌, ◌⊎◌, inl, inr, arith}
 use Rattle.std.proofs.lemmas.List.{length-append, length-map}
 use Rattle.std.specs.Global.{Vec}
 use Rattle.std.specs.List.{AllByRecursion, filter, AllZip}
 use Rattle.std.specs.Cmp.{IsTotalOrder, IsEquivalence, tied_back}
-use Rattle.std.specs.declared.cmp.Ordering.{Ordering}
 use Rattle.key_order.specs.Map.{SameMap, get, last_key}
 use Rattle.key_order.proofs.SameKeys.{SameKeys}
-use Rattle.key_order.proofs.Bools.{which}
 use Rattle.key_order.proofs.ListParts.{each-before, each-behind, join_tells}
 use Rattle.merkle_diff.proofs.Each.{each-all, each-mapped, each-with}
 use Rattle.merkle_replica.specs.Contents.{Contents, Side, side, tree_map}
@@ -47,28 +45,11 @@ use Rattle.merkle_wire.proofs.SameNodes.{keys_over-same}
 use Rattle.merkle_wire.proofs.SteadyCatchUps.{stay, up_root, up_tree}
 use Rattle.merkle_wire.proofs.StepCovers.{parts_theirs}
 use Rattle.merkle_wire.proofs.TakenGaps.{IsGapOrNone, nodes_or_none}
+use Rattle.merkle_wire.proofs.Lengths.{filter_length, same_keys_length, some_long}
 use Rattle.merkle_wire.proofs.TellingQuestions.{SameGapTold, SameQuestion}
 use Rattle.merkle_wire.proofs.TellingReplies.{SameOutline, outlines_tell, parts_tell}
 use Rattle.merkle_wire.proofs.Times.{total-append, total-mapped}
 use Rattle.merkle_wire.proofs.RowsCounted.{ascending_counted, behind_counted, parts_counted, rows_alike}
-
-same_keys_length : {K : Type 0} (cmp : K → K → Ordering) (js ks : List K) → SameKeys cmp js ks → length js ≡ length ks
-same_keys_length cmp [] [] s = refl
-same_keys_length cmp [] (k ∷ ks) s = absurd s
-same_keys_length cmp (j ∷ js) [] s = absurd s
-same_keys_length cmp (j ∷ js) (k ∷ ks) s = omega (arith, same_keys_length cmp js ks s.1)
-
-some_long : {X : Type 0} (xs : List X) → xs ≢ [] → 1 ≤ length xs
-some_long [] some = absurd (some refl)
-some_long (x ∷ xs) some = omega arith
-
-filter_length : {X : Type 0} (test : X → Bool) (xs : List X) → length (filter test xs) ≤ length xs
-filter_length test [] = omega arith
-filter_length test (x ∷ xs) = go (which (test x)) (filter_length test xs)
-  where
-    go : (test x ≡ false) ⊎ (test x ≡ true) → length (filter test xs) ≤ length xs → length (filter test (x ∷ xs)) ≤ length (x ∷ xs)
-    go (inl n) less = rw n (omega (arith, less))
-    go (inr n) less = rw n (omega (arith, less))
 
 module _ {K V H : Type 0} (laws : Laws K V H) (o : IsTotalOrder laws.cmp) (eqv : IsEquivalence laws.eq) (encoding : K → List ℕ) (values : V → List ℕ) (tell : Tell laws encoding values) (n : ℕ)
     (local : Side K V H) (peer : Contents K V H) (root : Tree K (List ℕ)) (sides : AreSides laws local (side peer) root peer.tree.root)
