@@ -23,8 +23,8 @@ def check(what, seen, wanted):
 
 
 def vectors():
-    """SipHash under the key 00 01 .. 0f of so many bytes 00 01 .., as digest_tests lists it."""
-    listed = re.findall(r"^    0x([0-9a-f]{32}),$", text_of("crates/digest_tests/src/siphash.rt"), re.M)
+    """SipHash under the key 00 01 .. 0f of so many bytes 00 01 .., as merkle_digest_tests lists it."""
+    listed = re.findall(r"^    0x([0-9a-f]{32}),$", text_of("crates/merkle_digest_tests/src/siphash.rt"), re.M)
     for count, digest in enumerate(listed):
         check(f"SipHash of {count} bytes", siphash128(bytes(range(16)), bytes(range(count))).hex(), digest)
     return len(listed)
@@ -49,8 +49,8 @@ def spans(text):
 
 
 def rust_differences():
-    """The Rust crate's answers on random lists, as diff_tests lists them."""
-    lines = re.findall(r"^(.*\|.*\|[^\\\n]*)\\n", text_of("crates/diff_tests/src/rust_answers.rt"), re.M)
+    """The Rust crate's answers on random lists, as merkle_diff_tests lists them."""
+    lines = re.findall(r"^(.*\|.*\|[^\\\n]*)\\n", text_of("crates/merkle_diff_tests/src/rust_answers.rt"), re.M)
     for line in lines:
         local, peer, wanted = map(spans, line.split("|"))
         found = differences.difference(local, peer)

@@ -4,7 +4,7 @@
 //! is eight bytes, the lowest first.
 ghost use Rattle.std.specs.Prelude.{◌≡◌, ◌++◌, OnOk, IfOk};
 ghost use Rattle.c_rows.specs.Values.{by_bytes, by_bytes_all};
-ghost use Rattle.c_rows.specs.Wire.{number_bytes, text_bytes, row_bytes, rows_bytes};
+ghost use Rattle.c_values.specs.Lists.{number_bytes, sized_bytes, sized_row, row_list};
 
 use crate::value::ByteValue;
 use std::alloc::{AllocError, Global};
@@ -21,7 +21,7 @@ pub fn put_number(number: usize, out: &mut Vec<u8>) -> Result<(), AllocError>
 
 /// Writes a string.
 pub fn put_text(text: &[u8], out: &mut Vec<u8>) -> Result<(), AllocError>
-    ensures { OnOk result (out.new.items ≡ out.old.items ++ text_bytes text.now) }
+    ensures { OnOk result (out.new.items ≡ out.old.items ++ sized_bytes text.now) }
 {
     put_number(text.len(), out)?;
     out.extend_from_slice(text)
@@ -29,7 +29,7 @@ pub fn put_text(text: &[u8], out: &mut Vec<u8>) -> Result<(), AllocError>
 
 /// Writes a row.
 fn put_row(row: &(Vec<u8>, ByteValue), out: &mut Vec<u8>) -> Result<(), AllocError>
-    ensures { OnOk result (out.new.items ≡ out.old.items ++ row_bytes (by_bytes row.now)) }
+    ensures { OnOk result (out.new.items ≡ out.old.items ++ sized_row (by_bytes row.now)) }
 {
     put_text(row.0.as_slice(), out)?;
     put_text(row.1.bytes.as_slice(), out)
@@ -37,7 +37,7 @@ fn put_row(row: &(Vec<u8>, ByteValue), out: &mut Vec<u8>) -> Result<(), AllocErr
 
 /// The rows as bytes.
 pub fn encode(alloc: Global, rows: &[(Vec<u8>, ByteValue)]) -> Result<Vec<u8>, AllocError>
-    ensures { IfOk result (λ out. out.items ≡ rows_bytes (by_bytes_all rows.now)) }
+    ensures { IfOk result (λ out. out.items ≡ row_list (by_bytes_all rows.now)) }
 {
     let mut out = Vec::from_slice(alloc, &ROWS)?;
     put_number(rows.len(), &mut out)?;

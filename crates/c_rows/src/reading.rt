@@ -2,7 +2,7 @@
 ghost use Rattle.std.specs.Prelude.{◌≡◌, [], ◌∷◌, ◌++◌, IfOk, IfSome, OnOk, length};
 ghost use Rattle.std.specs.List.{flat_map};
 ghost use Rattle.c_rows.specs.Values.{by_bytes_all};
-ghost use Rattle.c_rows.specs.Wire.{number_bytes, row_bytes, rows_bytes, text_bytes};
+ghost use Rattle.c_values.specs.Lists.{number_bytes, sized_row, row_list, sized_bytes};
 ghost use Rattle.c_rows.specs.declared.reading.ListError.TheVariants.{Memory};
 
 use crate::list::ROWS;
@@ -43,7 +43,7 @@ fn number_of(bytes: &[u8]) -> Option<(u64, &[u8])>
 
 /// The string at the front, and the bytes after it.
 fn text_of(bytes: &[u8]) -> Option<(&[u8], &[u8])>
-    ensures { IfSome result (λ r. bytes.now ≡ text_bytes r.0.now ++ r.1.now) }
+    ensures { IfSome result (λ r. bytes.now ≡ sized_bytes r.0.now ++ r.1.now) }
 {
     let (len, rest) = number_of(bytes)?;
     rest.split_at_checked(len as usize)
@@ -51,7 +51,7 @@ fn text_of(bytes: &[u8]) -> Option<(&[u8], &[u8])>
 
 /// The row at the front, and the bytes after it.
 fn row_of(bytes: &[u8]) -> Option<(&[u8], &[u8], &[u8])>
-    ensures { IfSome result (λ r. bytes.now ≡ row_bytes (r.0.now, r.1.now) ++ r.2.now) }
+    ensures { IfSome result (λ r. bytes.now ≡ sized_row (r.0.now, r.1.now) ++ r.2.now) }
 {
     let (key, rest) = text_of(bytes)?;
     let (value, rest) = text_of(rest)?;
@@ -88,7 +88,7 @@ fn push_row(
 
 /// This many rows, which the bytes are.
 fn rows_of(alloc: Global, count: u64, body: &[u8]) -> Result<Vec<(Vec<u8>, ByteValue)>, ListError>
-    ensures rows { IfOk result (λ rows. body.now ≡ flat_map row_bytes (by_bytes_all rows.items)) }
+    ensures rows { IfOk result (λ rows. body.now ≡ flat_map sized_row (by_bytes_all rows.items)) }
     ensures counted { IfOk result (λ rows. length (by_bytes_all rows.items) ≡ count) }
 {
     let mut rows = Vec::new(alloc);
@@ -119,7 +119,7 @@ fn all_read(
 
 /// The rows that the bytes spell.
 pub fn decode_rows(alloc: Global, bytes: &[u8]) -> Result<Vec<(Vec<u8>, ByteValue)>, ListError>
-    ensures { IfOk result (λ rows. bytes.now ≡ rows_bytes (by_bytes_all rows.items)) }
+    ensures { IfOk result (λ rows. bytes.now ≡ row_list (by_bytes_all rows.items)) }
 {
     let Some((count, body)) = body_of(&ROWS, bytes) else {
         return Err(ListError::Malformed);

@@ -49,7 +49,12 @@ beside 𝓤 P Q q = mono_r 𝓤 P (via 𝓤 (sep 𝓤 (emp 𝓤) (emp 𝓤)) (em
 module _ (X : RattleType) (L : Laws X) where
   -- a box of such a value
   abbrev pub boxed : Bx
-  boxed = record { row = X; laws = L; al = record { row = passed_row; laws = arg_laws (bare (layout Global.the_row)) no Global.the_row global_laws.the_row_laws refl; g = ghosts; d = dict; drops = no_drop } }
+  boxed = record {
+    row = X;
+    laws = L;
+    al =
+        record { row = passed_row; laws = arg_laws (bare (layout Global.the_row)) no Global.the_row global_laws.the_row_laws refl; g = ghosts; d = dict; drops = no_drop };
+  }
 
   -- it as a type
   abbrev pub BoxRow : RattleType
@@ -75,7 +80,8 @@ module _ (X : RattleType) (L : Laws X) where
     handle_bits t d vs k =
         fsplit t $ fpick t (λ vss. fsplit t $ feq_l t (λ ev. fsplit t $ feq_l t (λ ep. fsplit t $ handle_tells boxed.al t d.alloc vss.1.0 (λ h ea fits.
         fjoin t $ feq_i t (List Val) (ptr_val d.ptr ∷ []) (ptr_val d.ptr ∷ []) refl $ fjoin t $ feq_i t (List Val) (handle_word d.ptr h ∷ []) (handle_word d.ptr h ∷ []) refl $ fjoin t $
-        fpack t (Valss (RawPtr ∷ P boxed ∷ [])) (within (shape (Handle.the_type (R boxed))) (to (Handle.the_type (R boxed)) d) (handle_word d.ptr h ∷ [])) (ptr_val d.ptr ∷ [], (h ∷ [], tt)) $ fjoin t $
+        fpack t (Valss (RawPtr ∷ P boxed ∷ [])) (within (shape (Handle.the_type (R boxed))) (to (Handle.the_type (R boxed)) d) (handle_word d.ptr h ∷ []))
+        (ptr_val d.ptr ∷ [], (h ∷ [], tt)) $ fjoin t $
         k h (subst (λ (ws : List Val). vs ≡ vstruct (of_list (ptr_val d.ptr ∷ (ws ++ []))) ∷ []) ea (subst (λ (ps : List Val). vs ≡ vstruct (of_list (ps ++ (vss.1.0 ++ []))) ∷ []) ep ev)) fits))))
 
     -- a handle of nothing is made of an allocator
@@ -84,7 +90,9 @@ module _ (X : RattleType) (L : Laws X) where
     null_in t a h = step (λ s. nothing t $ fpack t (null_ptr ≡ null_ptr) (λ _. ftrue) refl $
         nothing t $ move t (2 ∷ 0 ∷ []) $ fjoin t $ feq_i t (List Val) (ptr_val null_ptr ∷ []) (ptr_val null_ptr ∷ []) refl $ fjoin t $
         feq_i t (List Val) (handle_word null_ptr h ∷ []) (handle_word null_ptr h ∷ []) refl $ fjoin t $
-        fpack t (Valss (RawPtr ∷ P boxed ∷ [])) (within (shape (Handle.the_type (R boxed))) (to (Handle.the_type (R boxed)) (record { ptr = null_ptr; alloc = a; held = None })) (handle_word null_ptr h ∷ [])) (ptr_val null_ptr ∷ [], (h ∷ [], tt)) $ fjoin t $ s)
+        fpack t (Valss (RawPtr ∷ P boxed ∷ []))
+        (within (shape (Handle.the_type (R boxed))) (to (Handle.the_type (R boxed)) (record { ptr = null_ptr; alloc = a; held = None }))
+        (handle_word null_ptr h ∷ [])) (ptr_val null_ptr ∷ [], (h ∷ [], tt)) $ fjoin t $ s)
 
     -- a handle has nothing and is null, or owns what a box owns
     pub handle_out : K → (p : Ptr) (a : Global.the_row.Denot) (held : Option X.Denot) (vs : List Val)

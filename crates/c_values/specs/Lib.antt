@@ -1,2 +1,5 @@
+pub mod Handles
+pub mod Keys
+pub mod Lists
 pub mod Output
 pub mod Owned

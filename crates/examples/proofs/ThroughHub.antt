@@ -7,7 +7,7 @@ use Rattle.std.specs.List.{AllByRecursion}
 use Rattle.key_order.specs.Order.{AnyByRecursion}
 use Rattle.merkle_diff.proofs.Each.{any-left, any-right, any-map, each-with, every-in}
 use Rattle.merkle_replica.specs.Contents.{Side}
-use Rattle.merkle_replica.specs.Gossip.{numbered, changed, come_to, heard, gathering, spreading, through_hub, IsJoinOf, rows_of}
+use Rattle.merkle_replica.specs.Gossip.{numbered, changed, come_to, heard, gathering, spreading, through_hub, IsJoinOf, rows_of_sides}
 use Rattle.merkle_replica.specs.Laws.{Laws}
 use Rattle.merkle_wire.proofs.RoundCovers.{any-map as any-mapped}
 
@@ -117,14 +117,14 @@ module _ {K V H : Type 0} (laws : Laws K V H) where
       → AllByRecursion (λ n. AnyByRecursion (λ m. m ≡ n) ms) ns → Holds ms rows → Holds ns rows)
       → (hub : Side K V H) (others after : List (Side K V H)) (count : ℕ) → count ≡ length others → length after ≡ suc count
       → ((n : ℕ) → Holds (map (λ m. (numbered hub (hub ∷ others) m).rows) (heard (through_hub count) n)) (numbered hub after n).rows)
-      → AllByRecursion (λ s. Holds (rows_of (hub ∷ others)) s.rows) after
-  all_hold same hub others after count all long joins = each_numbered (λ s. Holds (rows_of (hub ∷ others)) s.rows) hub after at
+      → AllByRecursion (λ s. Holds (rows_of_sides (hub ∷ others)) s.rows) after
+  all_hold same hub others after count all long joins = each_numbered (λ s. Holds (rows_of_sides (hub ∷ others)) s.rows) hub after at
     where
       own : ℕ → List (K × V)
       own m = (numbered hub (hub ∷ others) m).rows
 
-      whole : map own (upto count) ≡ rows_of (hub ∷ others)
-      whole = map-upto (λ s. s.rows) hub hub others count (omega (arith, all)) ∙ ap (λ ys. rows_of (hub ∷ ys)) (take_all count others (omega (arith, all)))
+      whole : map own (upto count) ≡ rows_of_sides (hub ∷ others)
+      whole = map-upto (λ s. s.rows) hub hub others count (omega (arith, all)) ∙ ap (λ ys. rows_of_sides (hub ∷ ys)) (take_all count others (omega (arith, all)))
 
       more : (k : ℕ) → k ≤ count → (rows : List (K × V)) → Holds (own k ∷ map own (upto count)) rows → Holds (map own (upto count)) rows
       more k low rows =
@@ -133,7 +133,7 @@ module _ {K V H : Type 0} (laws : Laws K V H) where
           same (own k ∷ map own (upto count)) (map own (upto count)) rows (one, every)
           (each-with (λ n. AnyByRecursion (λ m. m ≡ n) (map own (upto count))) (λ n. AnyByRecursion (λ m. m ≡ n) (own k ∷ map own (upto count))) (map own (upto count)) (λ n h. inr h) every)
 
-      at : (k : ℕ) → k < length after → Holds (rows_of (hub ∷ others)) (numbered hub after k).rows
+      at : (k : ℕ) → k < length after → Holds (rows_of_sides (hub ∷ others)) (numbered hub after k).rows
       at zero low = subst (λ ms. Holds ms (numbered hub after 0).rows) (ap (map own) (heard_all count) ∙ whole) (joins 0)
       at (suc k) low =
           let rows = (numbered hub after (suc k)).rows in

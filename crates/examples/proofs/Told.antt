@@ -28,11 +28,11 @@ use Rattle.merkle_diff.specs.Merge.{SameSpans}
 use Rattle.merkle_diff.specs.SameEntries.{SameEntry, SameEntries}
 use Rattle.merkle_diff.proofs.SameSpans.{rows_in-alike}
 use Rattle.merkle_replica.proofs.RowCopies.{take_same}
-use Rattle.examples.specs.Wire.{fault_of, text_bytes, page_range_bytes, range_bytes, row_bytes}
+use Rattle.examples.specs.Wire.{wire_fault_of, text_bytes, page_range_bytes, range_bytes, name_row_bytes}
 use Rattle.examples.specs.declared.wire.WireFault.TheVariants.{Malformed}
 
 -- bytes are malformed only where memory was not the reason
-pub malformed_of : (error : ReadError) → fault_of error ≡ Malformed → IsMalformed error
+pub malformed_of : (error : ReadError) → wire_fault_of error ≡ Malformed → IsMalformed error
 malformed_of read.Memory is = absurd (cc)
 malformed_of (read.Unexpected offset expected) is = tt
 
@@ -63,7 +63,7 @@ lists_tell bytes R tells xs ys all e f =
 text_tells : (t u : Text) (r s : List ℕ) → text_bytes t ++ r ≡ text_bytes u ++ s → Same text_order t u × (r ≡ s)
 text_tells t u r s e = let both = string_told (string_bytes t) (string_bytes u) r s e in (string_clone t u (sym both.0), both.1)
 
-row_tells : (x y : Text × ℕ) (r s : List ℕ) → row_bytes x ++ r ≡ row_bytes y ++ s → (Same text_order x.0 y.0 × (nat_eq x.1 y.1 ≡ true)) × (r ≡ s)
+row_tells : (x y : Text × ℕ) (r s : List ℕ) → name_row_bytes x ++ r ≡ name_row_bytes y ++ s → (Same text_order x.0 y.0 × (nat_eq x.1 y.1 ≡ true)) × (r ≡ s)
 row_tells x y r s e =
     let names = text_tells x.0 y.0 (count_bytes x.1 ++ r) (count_bytes y.1 ++ s) (sym (append_assoc (text_bytes x.0) (count_bytes x.1) r) ∙ e ∙ append_assoc (text_bytes y.0) (count_bytes y.1) s) in
     let numbers = number_told x.1 y.1 r s names.1 in
@@ -102,8 +102,8 @@ same_ranges xs ys all e f = as_spans xs ys (lists_tell range_bytes (SameSpan tex
     as_spans (x ∷ xs) [] h = absurd h
     as_spans (x ∷ xs) (y ∷ ys) h = (h.0, as_spans xs ys h.1)
 
-pub same_rows : (xs ys : List (Text × ℕ)) (all : List ℕ) → all ≡ list_bytes row_bytes xs → all ≡ list_bytes row_bytes ys → SameMap text_order (λ x y. nat_eq x y ≡ true) xs ys
-same_rows xs ys all e f = as_rows xs ys (lists_tell row_bytes (λ x y. Same text_order x.0 y.0 × (nat_eq x.1 y.1 ≡ true)) row_tells xs ys all e f)
+pub same_rows : (xs ys : List (Text × ℕ)) (all : List ℕ) → all ≡ list_bytes name_row_bytes xs → all ≡ list_bytes name_row_bytes ys → SameMap text_order (λ x y. nat_eq x y ≡ true) xs ys
+same_rows xs ys all e f = as_rows xs ys (lists_tell name_row_bytes (λ x y. Same text_order x.0 y.0 × (nat_eq x.1 y.1 ≡ true)) row_tells xs ys all e f)
   where
     as_rows : (xs ys : List (Text × ℕ)) → AllZip (λ x y. Same text_order x.0 y.0 × (nat_eq x.1 y.1 ≡ true)) xs ys → SameMap text_order (λ x y. nat_eq x y ≡ true) xs ys
     as_rows [] [] h = tt
@@ -113,7 +113,7 @@ same_rows xs ys all e f = as_rows xs ys (lists_tell row_bytes (λ x y. Same text
 
 -- the rows that came are those that were asked for, and so are the first of them, which are joined alike
 pub rows_asked_for : (peer : List (Text × ℕ)) (found spans : List (Span Text)) (got : List (Text × ℕ)) (asked sent : List ℕ)
-    → asked ≡ list_bytes range_bytes found → asked ≡ list_bytes range_bytes spans → sent ≡ list_bytes row_bytes (rows_in text_order spans peer) → sent ≡ list_bytes row_bytes got
+    → asked ≡ list_bytes range_bytes found → asked ≡ list_bytes range_bytes spans → sent ≡ list_bytes name_row_bytes (rows_in text_order spans peer) → sent ≡ list_bytes name_row_bytes got
     → SameMap text_order (λ x y. nat_eq x y ≡ true) (rows_in text_order found peer) got
 rows_asked_for peer found spans got asked sent asks read spelled came =
     subst (λ rows. SameMap text_order (λ x y. nat_eq x y ≡ true) rows got) (sym (rows_in-alike text_order string_cmp_total found spans (same_ranges found spans asked asks read) peer))

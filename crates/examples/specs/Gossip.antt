@@ -2,7 +2,7 @@
 use Rattle.std.specs.Prelude.{◌≡◌, ℕ, List, IfOk, Result}
 use Rattle.std.specs.Global.{Vec}
 use Rattle.merkle_tree_theory.specs.Stream.{page_digest}
-use Rattle.merkle_replica.specs.Answers.{MayAsk}
+use Rattle.merkle_replica.specs.Answers.{MayAskPeer}
 use Rattle.merkle_replica.specs.Contents.{Contents}
 use Rattle.merkle_replica.specs.Laws.{Laws}
 
@@ -13,4 +13,4 @@ HaveOneRootHash bytes_of a b = page_digest a.tree.format bytes_of a.tree.root �
 -- where they don't, a call that answers ranges answers some that local may ask the peer for
 abbrev pub AsksWhereTheyDiffer : {K V H E : Type 0} → Laws K V H → Contents K V H → Contents K V H → Result (Vec (K × K)) E → Type 0
 AsksWhereTheyDiffer laws local peer result =
-    ¬ (HaveOneRootHash laws.bytes_of local peer) → IfOk result (λ ranges. MayAsk laws local peer ranges.items)
+    ¬ (HaveOneRootHash laws.bytes_of local peer) → IfOk result (λ ranges. MayAskPeer laws local peer ranges.items)

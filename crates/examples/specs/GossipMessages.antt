@@ -2,7 +2,7 @@
 use Rattle.std.specs.Prelude.{◌≡◌, ℕ, suc, ◌<◌, List, [], ◌∷◌, ◌++◌, length, map}
 use Rattle.std.specs.List.{AllByRecursion}
 use Rattle.merkle_replica.specs.Contents.{Contents, Side, side, with_rows}
-use Rattle.merkle_replica.specs.Gossip.{numbered, changed, gathering, spreading, through_hub, IsJoinOf, rows_of}
+use Rattle.merkle_replica.specs.Gossip.{numbered, changed, gathering, spreading, through_hub, IsJoinOf, rows_of_sides}
 use Rattle.merkle_replica.specs.Laws.{Laws}
 use Rattle.merkle_wire.specs.Sessions.{IsFaithfulSession, HasJoined, IsMessagesRefused}
 use Rattle.merkle_wire.specs.declared.session.MessagesError.{MessagesError}
@@ -53,7 +53,7 @@ module _ {K V H : Type 0} (laws : Laws K V H) where
     pub record IsGossipJoined : Type 0 where
       pub met : List (Side K V H × Side K V H)
       pub sessions : AreSessions (through_hub (length others)) (numbered (side hub) (sides_of hub others)) (numbered (side hub) (sides_of hub' others')) met
-      pub join : AllFaithfulSessions met → AllByRecursion (λ s. IsJoinOf laws.cmp laws.eq laws.join (rows_of (sides_of hub others)) s.rows) (sides_of hub' others')
+      pub join : AllFaithfulSessions met → AllByRecursion (λ s. IsJoinOf laws.cmp laws.eq laws.join (rows_of_sides (sides_of hub others)) s.rows) (sides_of hub' others')
 
     -- a session by the hub ended early
     abbrev pub StopsGathering : Stopped → Type 0
@@ -70,6 +70,6 @@ module _ {K V H : Type 0} (laws : Laws K V H) where
     StopsSpreading = StopsSpreadingBehind []
 
     -- one of all sessions ended early
-    abbrev pub StopsGossip : GossipError → Type 0
-    StopsGossip (Gathering stopped) = StopsGathering stopped
-    StopsGossip (Spreading stopped) = StopsSpreadingBehind (gathering (length others)) stopped
+    abbrev pub StopsGossipByMessages : GossipError → Type 0
+    StopsGossipByMessages (Gathering stopped) = StopsGathering stopped
+    StopsGossipByMessages (Spreading stopped) = StopsSpreadingBehind (gathering (length others)) stopped

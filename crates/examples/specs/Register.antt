@@ -9,8 +9,8 @@ use Rattle.key_order.specs.Text.{Text, text_order}
 use Rattle.examples.specs.declared.register.Register.{Register}
 
 -- the bytes of its three numbers
-abbrev pub register_bytes : Register → List ℕ
-register_bytes r = to_le_bytes w64 r.time ++ to_le_bytes w64 r.writer ++ to_le_bytes w64 r.value
+abbrev pub bytes_of_register : Register → List ℕ
+bytes_of_register r = to_le_bytes w64 r.time ++ to_le_bytes w64 r.writer ++ to_le_bytes w64 r.value
 
 -- this name has then the later of the register that it had, if any, and the one that is written, and each other name what it had
 abbrev pub IsWritten : (Register → Register → Ordering) → List (Text × Register) → Text → Register → List (Text × Register) → Type 0

@@ -12,5 +12,5 @@ exact a b h =
     let (r, v) = and_parts (beq a.removed b.removed) (nat_eq a.value b.value) rest in
     λ i. record { time = eqb-true a.time b.time t i; removed = (booleans_Decides a.removed b.removed).0 r i; value = eqb-true a.value b.value v i }
 
-pub same_bytes : (a b : Removable) → nat_eq a.time b.time && (beq a.removed b.removed && nat_eq a.value b.value) ≡ true → removable_bytes a ≡ removable_bytes b
-same_bytes a b h = ap removable_bytes (exact a b h)
+pub same_removable_bytes : (a b : Removable) → nat_eq a.time b.time && (beq a.removed b.removed && nat_eq a.value b.value) ≡ true → removable_bytes a ≡ removable_bytes b
+same_removable_bytes a b h = ap removable_bytes (exact a b h)

@@ -64,5 +64,5 @@ module _ {K V H : Type 0} (laws : Laws K V H) where
   StopsWithOneRow key value b b' = (one : Contents K V H) × HasOneRow key value one × StopsSync one b b'
 
   -- the rows of b stayed, or such a sync with it stopped
-  abbrev pub EndsEarly : K → V → Contents K V H → Contents K V H → Type 0
-  EndsEarly key value b b' = (b'.rows ≡ b.rows) ⊎ StopsWithOneRow key value b b'.rows
+  abbrev pub SyncEndsEarly : K → V → Contents K V H → Contents K V H → Type 0
+  SyncEndsEarly key value b b' = (b'.rows ≡ b.rows) ⊎ StopsWithOneRow key value b b'.rows

@@ -27,16 +27,16 @@ abbrev pub range_bytes : Span Text → List ℕ
 range_bytes s = text_bytes s.first ++ text_bytes s.last
 
 -- a row: its name and its number
-abbrev pub row_bytes : Text × ℕ → List ℕ
-row_bytes r = text_bytes r.0 ++ count_bytes r.1
+abbrev pub name_row_bytes : Text × ℕ → List ℕ
+name_row_bytes r = text_bytes r.0 ++ count_bytes r.1
 
 -- what a page range keeps to: its first name isn't above its last, and its digest has 16 bytes
-abbrev pub IsPageRange : Entry Text (List ℕ) → Type 0
-IsPageRange = IsEntry (λ _. ⊤) text_order
+abbrev pub IsNameRange : Entry Text (List ℕ) → Type 0
+IsNameRange = IsEntry (λ _. ⊤) text_order
 
 -- what a row keeps to: its number is one of 64 bits
-abbrev pub IsRow : Text × ℕ → Type 0
-IsRow r = r.1 < 2 ^ 64
+abbrev pub HasWideNumber : Text × ℕ → Type 0
+HasWideNumber r = r.1 < 2 ^ 64
 
 -- the bytes spell no list of such values
 abbrev pub AreNoList : {T : Type 0} → (T → Type 0) → (T → List ℕ) → List ℕ → Type 0
@@ -44,7 +44,7 @@ AreNoList {T} is_value encoding bytes = (list : List T) → AllByRecursion is_va
 
 -- the bytes spell no page ranges
 abbrev pub AreNoPageRanges : List ℕ → Type 0
-AreNoPageRanges bytes = (theirs : List (Entry Text (List ℕ))) → AllByRecursion IsPageRange theirs → bytes ≢ list_bytes page_range_bytes theirs
+AreNoPageRanges bytes = (theirs : List (Entry Text (List ℕ))) → AllByRecursion IsNameRange theirs → bytes ≢ list_bytes page_range_bytes theirs
 
 -- the bytes spell no ranges of names
 abbrev pub AreNoRanges : List ℕ → Type 0
@@ -52,11 +52,11 @@ AreNoRanges bytes = (ranges : List (Span Text)) → bytes ≢ list_bytes range_b
 
 -- the bytes spell no rows
 abbrev pub AreNoRows : List ℕ → Type 0
-AreNoRows bytes = (rows : List (Text × ℕ)) → AllByRecursion IsRow rows → bytes ≢ list_bytes row_bytes rows
+AreNoRows bytes = (rows : List (Text × ℕ)) → AllByRecursion HasWideNumber rows → bytes ≢ list_bytes name_row_bytes rows
 
 -- bytes that go on with those of a list of rows, whatever comes after them, begin with how many these are
 abbrev pub TellsHowMany : List ℕ → ℕ → Type 0
-TellsHowMany bytes count = (rows : List (Text × ℕ)) (more rest : List ℕ) → bytes ++ more ≡ list_bytes row_bytes rows ++ rest → count ≡ length rows
+TellsHowMany bytes count = (rows : List (Text × ℕ)) (more rest : List ℕ) → bytes ++ more ≡ list_bytes name_row_bytes rows ++ rest → count ≡ length rows
 
 -- the bytes spell ranges that don't ascend
 abbrev pub AreUnorderedRanges : List ℕ → Type 0
@@ -64,9 +64,9 @@ AreUnorderedRanges bytes = (ranges : List (Span Text)) × (bytes ≡ list_bytes 
 
 -- the bytes spell rows that don't ascend
 abbrev pub AreUnorderedRows : List ℕ → Type 0
-AreUnorderedRows bytes = (rows : List (Text × ℕ)) × (bytes ≡ list_bytes row_bytes rows) × ¬ (IsMap text_order rows)
+AreUnorderedRows bytes = (rows : List (Text × ℕ)) × (bytes ≡ list_bytes name_row_bytes rows) × ¬ (IsMap text_order rows)
 
 -- why bytes were not taken that were not read
-abbrev pub fault_of : ReadError → WireFault
-fault_of read.Memory = Memory
-fault_of (read.Unexpected offset expected) = Malformed
+abbrev pub wire_fault_of : ReadError → WireFault
+wire_fault_of read.Memory = Memory
+wire_fault_of (read.Unexpected offset expected) = Malformed

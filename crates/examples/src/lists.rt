@@ -4,7 +4,7 @@ ghost use Rattle.std.specs.List.{AllByRecursion};
 ghost use Rattle.merkle_bytes.specs.Encodings.{list_bytes};
 ghost use Rattle.merkle_diff.specs.PageRange.{entries};
 ghost use Rattle.merkle_replica.specs.Answers.{spans_of};
-ghost use Rattle.examples.specs.Wire.{AreNoList, AreNoPageRanges, AreNoRanges, AreNoRows, IsPageRange, IsRow, TellsHowMany, page_range_bytes, range_bytes, row_bytes};
+ghost use Rattle.examples.specs.Wire.{AreNoList, AreNoPageRanges, AreNoRanges, AreNoRows, IsNameRange, HasWideNumber, TellsHowMany, page_range_bytes, range_bytes, name_row_bytes};
 ghost use Rattle.examples.specs.declared.wire.WireFault.TheVariants.{Malformed};
 
 use crate::wire::WireFault;
@@ -46,7 +46,7 @@ pub fn write_page_ranges(
     ranges: &[PageRange<'_, String>],
 ) -> Result<Vec<u8>, AllocError>
     ensures bytes { IfOk result (λ bytes. bytes.items ≡ list_bytes page_range_bytes (entries ranges.now)) }
-    ensures each { OnOk result (AllByRecursion IsPageRange (entries ranges.now)) }
+    ensures each { OnOk result (AllByRecursion IsNameRange (entries ranges.now)) }
 {
     'digests: for range in ranges {
         digest_len(range.hash().as_bytes());
@@ -58,7 +58,7 @@ pub fn write_page_ranges(
 /// The page ranges whose bytes came.
 pub fn read_page_ranges(alloc: Global, bytes: &[u8]) -> Result<PageRangeSnapshot<String>, WireFault>
     ensures read { IfOk result (λ theirs. bytes.now ≡ list_bytes page_range_bytes theirs) }
-    ensures each { IfOk result (AllByRecursion IsPageRange) }
+    ensures each { IfOk result (AllByRecursion IsNameRange) }
     ensures malformed { result ≡ Err Malformed → AreNoPageRanges bytes.now }
 {
     let theirs = PageRangeSnapshot::from_owned(alloc, read_list(alloc, bytes)?)?;
@@ -89,8 +89,8 @@ fn number_fits(number: u64)
 
 /// Rows as bytes. It looks at the number of each.
 pub fn write_rows(alloc: Global, rows: &[&(String, u64)]) -> Result<Vec<u8>, AllocError>
-    ensures bytes { IfOk result (λ bytes. bytes.items ≡ list_bytes row_bytes (map (λ row. row.now) rows.now)) }
-    ensures each { OnOk result (AllByRecursion IsRow (map (λ row. row.now) rows.now)) }
+    ensures bytes { IfOk result (λ bytes. bytes.items ≡ list_bytes name_row_bytes (map (λ row. row.now) rows.now)) }
+    ensures each { OnOk result (AllByRecursion HasWideNumber (map (λ row. row.now) rows.now)) }
 {
     'numbers: for row in rows {
         number_fits(row.1);
@@ -101,8 +101,8 @@ pub fn write_rows(alloc: Global, rows: &[&(String, u64)]) -> Result<Vec<u8>, All
 
 /// The rows whose bytes came.
 pub fn read_rows(alloc: Global, bytes: &[u8]) -> Result<Vec<(String, u64)>, WireFault>
-    ensures read { IfOk result (λ rows. bytes.now ≡ list_bytes row_bytes rows.items) }
-    ensures each { IfOk result (λ rows. AllByRecursion IsRow rows.items) }
+    ensures read { IfOk result (λ rows. bytes.now ≡ list_bytes name_row_bytes rows.items) }
+    ensures each { IfOk result (λ rows. AllByRecursion HasWideNumber rows.items) }
     ensures malformed { result ≡ Err Malformed → AreNoRows bytes.now }
 {
     read_list(alloc, bytes)

@@ -3,7 +3,7 @@ ghost use Rattle.std.specs.Prelude.{◌≡◌, OnOk, IfErr, length, map};
 ghost use Rattle.std.specs.List.{AllByRecursion};
 ghost use Rattle.key_order.specs.Map.{IsMap};
 ghost use Rattle.merkle_replica.specs.Contents.{side};
-ghost use Rattle.examples.specs.GossipMessages.{AllGather, AllSpread, IsGossipJoined, StopsGathering, StopsSpreading, StopsGossip};
+ghost use Rattle.examples.specs.GossipMessages.{AllGather, AllSpread, IsGossipJoined, StopsGathering, StopsSpreading, StopsGossipByMessages};
 
 use merkle_bytes::Decode;
 use merkle_digest::Key;
@@ -42,7 +42,7 @@ pub fn gossip_by_messages<K: Key + Decode, V: Join + Decode, H: RowHasher<N, K, 
     others: &mut [Replica<K, V, H, N>],
 ) -> Result<(), GossipError>
     ensures join { OnOk result (IsGossipJoined H.laws hub.old others.old hub.new others.new) }
-    ensures stopped { IfErr result (StopsGossip H.laws hub.old others.old hub.new others.new) }
+    ensures stopped { IfErr result (StopsGossipByMessages H.laws hub.old others.old hub.new others.new) }
     ensures len { length others.new ≡ length others.old }
 {
     gossip_joins_what_came::<K, V, H, N>();

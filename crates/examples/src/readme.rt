@@ -4,7 +4,7 @@ ghost use Rattle.std.specs.Prelude.{IfOk, OnErr};
 ghost use Rattle.merkle_tree_theory.specs.Settings.{default_settings};
 ghost use Rattle.merkle_tree_theory.specs.State.{HasSettings, SameSettings};
 ghost use Rattle.merkle_tree_theory.specs.declared.page_format.PageFormat.TheVariants.{V1};
-ghost use Rattle.examples.specs.Sync.{EndsEarly, SyncsOneRow};
+ghost use Rattle.examples.specs.Sync.{SyncEndsEarly, SyncsOneRow};
 
 use anyhow::Result;
 use merkle_digest::SipHasher;
@@ -24,7 +24,7 @@ pub fn two_replicas(
     b: &mut Replica<String, u64, SipHasher, 16>,
 ) -> Result<Replica<String, u64, SipHasher, 16>>
     ensures join { IfOk result (λ a. SyncsOneRow ⟦<SipHasher as RowHasher<16, String, u64>>⟧.laws key 42 b.old a b.new) }
-    ensures stopped { OnErr result (EndsEarly ⟦<SipHasher as RowHasher<16, String, u64>>⟧.laws key 42 b.old b.new) }
+    ensures stopped { OnErr result (SyncEndsEarly ⟦<SipHasher as RowHasher<16, String, u64>>⟧.laws key 42 b.old b.new) }
     ensures defaults { IfOk result (λ a. HasSettings (default_settings V1) a.tree) }
     ensures settings { SameSettings b.old.tree b.new.tree }
 {

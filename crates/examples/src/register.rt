@@ -24,12 +24,12 @@ pub struct Register {
 
 /// The three numbers, eight bytes each.
 impl HashBytes for Register {
-    ghost use Rattle.examples.specs.Register.{register_bytes};
-    ghost use Rattle.examples.specs.RegisterLaws.{same_bytes};
+    ghost use Rattle.examples.specs.Register.{bytes_of_register};
+    ghost use Rattle.examples.specs.RegisterLaws.{same_register_bytes};
 
-    ghost fed_bytes = { register_bytes };
+    ghost fed_bytes = { bytes_of_register };
 
-    ghost fed_bytes_respect_eq = { same_bytes };
+    ghost fed_bytes_respect_eq = { same_register_bytes };
 
     fn feed(&self, sip: &mut Sip24) {
         self.time.feed(sip);

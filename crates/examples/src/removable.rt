@@ -21,11 +21,11 @@ pub struct Removable {
 /// The time in eight bytes, 1 for a removal or 0, and the value in eight bytes.
 impl HashBytes for Removable {
     ghost use Rattle.examples.specs.Removable.{removable_bytes};
-    ghost use Rattle.examples.specs.RemovableLaws.{same_bytes};
+    ghost use Rattle.examples.specs.RemovableLaws.{same_removable_bytes};
 
     ghost fed_bytes = { removable_bytes };
 
-    ghost fed_bytes_respect_eq = { same_bytes };
+    ghost fed_bytes_respect_eq = { same_removable_bytes };
 
     fn feed(&self, sip: &mut Sip24) {
         self.time.feed(sip);

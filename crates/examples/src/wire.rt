@@ -6,7 +6,7 @@
 ghost use Rattle.std.specs.Prelude.{◌≡◌, ◌⊎◌, IfOk, OnOk, OnErr, Err};
 ghost use Rattle.merkle_tree_theory.specs.State.{SameSettings};
 ghost use Rattle.merkle_replica.specs.Contents.{side};
-ghost use Rattle.examples.specs.PullMessages.{SpellsPages, SendsPageRanges, Asks, SendsRows, JoinsRows, StopsJoining, HasPulled, StopsPulling, MessagesAreAPull, MessagesArePartOfAPull};
+ghost use Rattle.examples.specs.PullMessages.{SpellsPages, SendsPageRanges, AsksByMessage, SendsRows, JoinsSpelledRows, StopsJoining, HasPulledByMessages, StopsPullByMessages, MessagesAreAPull, MessagesArePartOfAPull};
 ghost use Rattle.examples.specs.Wire.{AreNoPageRanges, AreNoRanges, AreNoRows, AreUnorderedRanges, AreUnorderedRows};
 ghost use Rattle.examples.specs.declared.wire.WireFault.TheVariants.{Malformed};
 
@@ -41,9 +41,9 @@ impl From<AllocError> for WireFault {
 }
 
 impl From<ReadError> for WireFault {
-    ghost use Rattle.examples.specs.Wire.{fault_of};
+    ghost use Rattle.examples.specs.Wire.{wire_fault_of};
 
-    ghost from_gives = { λ error fault. fault ≡ fault_of error };
+    ghost from_gives = { λ error fault. fault ≡ wire_fault_of error };
 
     fn from(error: ReadError) -> Self {
         match error {
@@ -78,7 +78,7 @@ pub fn send_page_ranges(alloc: Global, store: &mut Store<u64>) -> Result<Vec<u8>
 ///
 /// Bytes that are no page ranges, or out of memory. The rows stay.
 pub fn ask(alloc: Global, store: &mut Store<u64>, page_ranges: &[u8]) -> Result<Vec<u8>, WireFault>
-    ensures asked { IfOk result (λ bytes. Asks (side store.old) page_ranges.now bytes.items) }
+    ensures asked { IfOk result (λ bytes. AsksByMessage (side store.old) page_ranges.now bytes.items) }
     ensures malformed { result ≡ Err Malformed → AreNoPageRanges page_ranges.now }
     ensures rows { store.new.rows ≡ store.old.rows }
     ensures settings { SameSettings store.old.tree store.new.tree }
@@ -117,7 +117,7 @@ pub fn send_rows(alloc: Global, store: &Store<u64>, asked: &[u8]) -> Result<Vec<
 /// Bytes that are no rows which ascend, which leave the store as it was, or out of memory: no row was joined then or the first of
 /// those that came.
 pub fn join(alloc: Global, store: &mut Store<u64>, rows: &[u8]) -> Result<(), WireFault>
-    ensures joined { OnOk result (JoinsRows (side store.old) rows.now store.new.rows) }
+    ensures joined { OnOk result (JoinsSpelledRows (side store.old) rows.now store.new.rows) }
 
     // The bytes spell no rows, or some that don't ascend.
     ensures malformed { result ≡ Err Malformed → AreNoRows rows.now ⊎ AreUnorderedRows rows.now }
@@ -155,8 +155,8 @@ pub fn pull_over_bytes(
     local: &mut Store<u64>,
     peer: &mut Store<u64>,
 ) -> Result<(), WireFault>
-    ensures pulled { OnOk result (HasPulled (side local.old) (side peer.old) local.new.rows) }
-    ensures refused { OnErr result (StopsPulling (side local.old) (side peer.old) local.new.rows) }
+    ensures pulled { OnOk result (HasPulledByMessages (side local.old) (side peer.old) local.new.rows) }
+    ensures refused { OnErr result (StopsPullByMessages (side local.old) (side peer.old) local.new.rows) }
     ensures peer_rows { peer.new.rows ≡ peer.old.rows }
     ensures settings { SameSettings local.old.tree local.new.tree }
     ensures peer_settings { SameSettings peer.old.tree peer.new.tree }

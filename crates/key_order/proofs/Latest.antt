@@ -81,8 +81,11 @@ module _ {K X : Type 0} (cmp : K → K → Ordering) (o : IsTotalOrder cmp) wher
       go : (b : Bool) → is_eq (cmp r.0 k) ≡ b → cond b (Some r.1) (get cmp rs k) ≡ Some x
           → (get cmp rs k ≡ Some x → All (Alone cmp k x) rs × (All (Other cmp k) rs → ⊥)) → All (Alone cmp k x) (r ∷ rs) × (All (Other cmp k) (r ∷ rs) → ⊥)
       go true f e h =
-          let is : r.1 ≡ x = cc in
-          (All-cons (Alone cmp k x) r rs (λ _. is) (All-from_recursion (Alone cmp k x) rs (alone_behind r rs k x f m.0)), λ all. let g : true ≡ false = sym f ∙ All-head (Other cmp k) r rs all in absurd (cc))
+          let is : r.1 ≡ x = cc in (
+            All-cons (Alone cmp k x) r rs (λ _. is) (All-from_recursion (Alone cmp k x) rs (alone_behind r rs k x f m.0)),
+            λ all. let g : true ≡ false = sym f
+                ∙ All-head (Other cmp k) r rs all in absurd (cc),
+          )
       go false f e h =
           let rest = h e in
           (All-cons (Alone cmp k x) r rs (λ g. let h : true ≡ false = sym g ∙ f in absurd (cc)) rest.0, λ all. rest.1 (All-tail (Other cmp k) r rs all))

@@ -59,20 +59,27 @@ module _ {K X : Type 0} (cmp : K → K → Ordering) (o : IsTotalOrder cmp) wher
   get_at_place (r ∷ rows) (suc at) k d up inside here = let in_rows : at < length rows = omega arith in rw (passed r rows at k d up in_rows here) (get_at_place rows at k d up.1 in_rows here)
 
   -- a key that is there gets another value in its place
-  pub set_at_place : (rows : List (K × X)) (at : ℕ) (k : K) (v : X) (d : K × X) → IsMap cmp rows → at < length rows → Same cmp (get_or rows at d).0 k → set cmp rows k v ≡ list_set rows at ((get_or rows at d).0, v)
+  pub set_at_place : (rows : List (K × X)) (at : ℕ) (k : K) (v : X) (d : K × X) → IsMap cmp rows → at < length rows → Same cmp (get_or rows at d).0 k
+      → set cmp rows k v ≡ list_set rows at ((get_or rows at d).0, v)
   set_at_place [] at k v d up inside here = absurd (omega arith)
   set_at_place (r ∷ rows) zero k v d up inside here = rw (tied_back o r.0 k here) refl
   set_at_place (r ∷ rows) (suc at) k v d up inside here = let in_rows : at < length rows = omega arith in
       rw (seen_from_below cmp o r.0 k (passed r rows at k d up in_rows here)) (ap (λ t. r ∷ t) (set_at_place rows at k v d up.1 in_rows here))
 
   -- a key that would go to a place is not there
-  pub get_in_gap : (rows : List (K × X)) (at : ℕ) (k : K) → at ≤ length rows → AllWithin (λ r. cmp r.0 k ≡ Less) rows 0 at → AllWithin (λ r. cmp r.0 k ≡ Greater) rows at (length rows) → get cmp rows k ≡ None
+  pub get_in_gap : (rows : List (K × X)) (at : ℕ) (k : K) → at ≤ length rows → AllWithin (λ r. cmp r.0 k ≡ Less) rows 0 at
+      → AllWithin (λ r. cmp r.0 k ≡ Greater) rows at (length rows) → get cmp rows k ≡ None
   get_in_gap [] at k within lower higher = refl
-  get_in_gap (r ∷ rows) zero k within lower higher = rw (higher 0 r (omega arith) (omega arith)) (get_in_gap rows zero k (omega arith) (λ j d from to. absurd (omega arith)) (λ j d from to. higher (suc j) d (omega arith) (omega arith)))
-  get_in_gap (r ∷ rows) (suc at) k within lower higher = rw (lower 0 r (omega arith) (omega arith)) (get_in_gap rows at k (omega arith) (λ j d from to. lower (suc j) d (omega arith) (omega arith)) (λ j d from to. higher (suc j) d (omega arith) (omega arith)))
+  get_in_gap (r ∷ rows) zero k within lower higher =
+      rw (higher 0 r (omega arith) (omega arith))
+      (get_in_gap rows zero k (omega arith) (λ j d from to. absurd (omega arith)) (λ j d from to. higher (suc j) d (omega arith) (omega arith)))
+  get_in_gap (r ∷ rows) (suc at) k within lower higher =
+      rw (lower 0 r (omega arith) (omega arith))
+      (get_in_gap rows at k (omega arith) (λ j d from to. lower (suc j) d (omega arith) (omega arith)) (λ j d from to. higher (suc j) d (omega arith) (omega arith)))
 
   -- a new key goes to its place
-  pub set_in_gap : (rows : List (K × X)) (at : ℕ) (k : K) (v : X) → at ≤ length rows → AllWithin (λ r. cmp r.0 k ≡ Less) rows 0 at → AllWithin (λ r. cmp r.0 k ≡ Greater) rows at (length rows) → set cmp rows k v ≡ insert rows at (k, v)
+  pub set_in_gap : (rows : List (K × X)) (at : ℕ) (k : K) (v : X) → at ≤ length rows → AllWithin (λ r. cmp r.0 k ≡ Less) rows 0 at
+      → AllWithin (λ r. cmp r.0 k ≡ Greater) rows at (length rows) → set cmp rows k v ≡ insert rows at (k, v)
   set_in_gap [] zero k v within lower higher = refl
   set_in_gap [] (suc at) k v within lower higher = absurd (omega arith)
   set_in_gap (r ∷ rows) zero k v within lower higher = rw (seen_from_above cmp o r.0 k (higher 0 r (omega arith) (omega arith))) refl
@@ -99,12 +106,15 @@ module _ {K X : Type 0} (cmp : K → K → Ordering) (o : IsTotalOrder cmp) wher
   has_at_place (r ∷ rows) (suc at) k d inside here = or_right (is_eq (cmp k r.0)) (has_key cmp rows k) (has_at_place rows at k d (omega arith) here)
 
   -- and one that would go to a place is not
-  pub has_in_gap : (rows : List (K × X)) (at : ℕ) (k : K) → at ≤ length rows → AllWithin (λ r. cmp r.0 k ≡ Less) rows 0 at → AllWithin (λ r. cmp r.0 k ≡ Greater) rows at (length rows) → has_key cmp rows k ≡ false
+  pub has_in_gap : (rows : List (K × X)) (at : ℕ) (k : K) → at ≤ length rows → AllWithin (λ r. cmp r.0 k ≡ Less) rows 0 at
+      → AllWithin (λ r. cmp r.0 k ≡ Greater) rows at (length rows) → has_key cmp rows k ≡ false
   has_in_gap [] at k within lower higher = refl
   has_in_gap (r ∷ rows) zero k within lower higher =
-      rw (seen_from_above cmp o r.0 k (higher 0 r (omega arith) (omega arith))) (has_in_gap rows zero k (omega arith) (λ j d from to. absurd (omega arith)) (λ j d from to. higher (suc j) d (omega arith) (omega arith)))
+      rw (seen_from_above cmp o r.0 k (higher 0 r (omega arith) (omega arith)))
+      (has_in_gap rows zero k (omega arith) (λ j d from to. absurd (omega arith)) (λ j d from to. higher (suc j) d (omega arith) (omega arith)))
   has_in_gap (r ∷ rows) (suc at) k within lower higher =
-      rw (seen_from_below cmp o r.0 k (lower 0 r (omega arith) (omega arith))) (has_in_gap rows at k (omega arith) (λ j d from to. lower (suc j) d (omega arith) (omega arith)) (λ j d from to. higher (suc j) d (omega arith) (omega arith)))
+      rw (seen_from_below cmp o r.0 k (lower 0 r (omega arith) (omega arith)))
+      (has_in_gap rows at k (omega arith) (λ j d from to. lower (suc j) d (omega arith) (omega arith)) (λ j d from to. higher (suc j) d (omega arith) (omega arith)))
 
 module _ {K V : Type 0} (cmp : K → K → Ordering) (o : IsTotalOrder cmp) where
   -- a search by halving ends at the key, or at the gap for it

@@ -9,7 +9,7 @@ use std::alloc::{AllocError, Global};
 ///
 /// A number joins to the greater one, and `()` to itself; a replica of the latter is a set of keys:
 ///
-/// ```rust crates/replica_tests/src/joins.rt
+/// ```rust crates/merkle_replica_tests/src/joins.rt
 /// assert_eq!(rt; Join::join(&3, rt.alloc(), &9)?, 9);
 /// assert_eq!(rt; Join::join(&9, rt.alloc(), &3)?, 9);
 /// assert_eq!(rt; Join::join(&(), rt.alloc(), &())?, ());

@@ -2,7 +2,7 @@
 use Rattle.std.proofs.Common.{◌≡◌, List}
 use Rattle.merkle_replica.specs.Contents.{Side}
 use Rattle.merkle_replica.specs.Laws.{Laws}
-use Rattle.main_theorem.specs.Course.{IsDone, AreExchanged}
+use Rattle.main_theorem.specs.Course.{IsExchangeDone, AreExchanged}
 use Rattle.main_theorem.specs.declared.course.Exchange.{Exchange}
 use Rattle.main_theorem.specs.declared.course.Exchange.TheVariants.{Apart, ByTurns, ByCatchUps}
 use Rattle.main_theorem.specs.declared.course.Exchanged.{Exchanged}
@@ -10,7 +10,7 @@ use Rattle.main_theorem.specs.declared.course.Exchanged.TheVariants.{Nothing, Pu
 
 module _ {K V H : Type 0} (laws : Laws K V H) (a b : Side K V H) (a' b' : List (K × V)) (met : List (Side K V H × Side K V H)) where
   -- apart, both have the rows that they had
-  pub apart_stay : (asked : Exchange) (made : Exchanged K) → asked ≡ Apart → IsDone asked made → AreExchanged laws made a b a' b' met → (a' ≡ a.rows) × (b' ≡ b.rows)
+  pub apart_stay : (asked : Exchange) (made : Exchanged K) → asked ≡ Apart → IsExchangeDone asked made → AreExchanged laws made a b a' b' met → (a' ≡ a.rows) × (b' ≡ b.rows)
   apart_stay Apart Nothing e d x = (x.0, x.1)
   apart_stay Apart (Pulled pulls) e d x = absurd d
   apart_stay Apart (CaughtUp first second) e d x = absurd d

@@ -14,7 +14,7 @@ use Rattle.merkle_tree_theory.specs.Settings.{Settings}
 use Rattle.merkle_replica.specs.Laws.{Laws}
 use Rattle.merkle_search_tree.specs.declared.updates.Update.{Update}
 use Rattle.merkle_search_tree.specs.declared.updates.Update.TheVariants.{Upsert, Remove}
-use Rattle.main_theorem.specs.After.{FreeAreAccepted, IsAcceptedIfFree, join_to, rows_after_one, rows_after_all}
+use Rattle.main_theorem.specs.After.{FreeUpdatesAreAccepted, IsFreeUpdateAccepted, join_to, rows_after_one, rows_after_all}
 use Rattle.merkle_replica.specs.Agreeing.{AreEqual}
 
 module _ {K V : Type 0} (cmp : K → K → Ordering) (join : V → V → V) where
@@ -28,7 +28,8 @@ module _ {K V : Type 0} (cmp : K → K → Ordering) (join : V → V → V) wher
 
 module _ {K V H : Type 0} (laws : Laws K V H) (s : Settings H) where
   pub free_more : (m : List (K × V)) (us : List (Update K V)) (u : Update K V) (bs : List Bool) (a : Bool)
-      → length bs ≡ length us → FreeAreAccepted laws s m us bs → IsAcceptedIfFree laws s (rows_after_all laws.cmp laws.join m us bs) u a → FreeAreAccepted laws s m (us ++ u ∷ []) (bs ++ a ∷ [])
+      → length bs ≡ length us → FreeUpdatesAreAccepted laws s m us bs → IsFreeUpdateAccepted laws s (rows_after_all laws.cmp laws.join m us bs) u a
+      → FreeUpdatesAreAccepted laws s m (us ++ u ∷ []) (bs ++ a ∷ [])
   free_more m [] u [] a e h f = (f, tt)
   free_more m [] u (b ∷ bs) a e h f = absurd (omega (arith, e))
   free_more m (v ∷ us) u [] a e h f = absurd (omega (arith, e))
@@ -74,7 +75,8 @@ module _ {K V : Type 0} (cmp : K → K → Ordering) (o : IsTotalOrder cmp) (eq 
   }
 
   -- an upsert
-  pub upserted : (a m rows : List (K × V)) (k : K) (v : V) → IsMap cmp a → AreEqual cmp eq a m → IsJoin cmp eq join a ((k, v) ∷ []) rows → AreEqual cmp eq rows (set cmp m k (join_to join (get cmp m k) v))
+  pub upserted : (a m rows : List (K × V)) (k : K) (v : V) → IsMap cmp a → AreEqual cmp eq a m → IsJoin cmp eq join a ((k, v) ∷ []) rows
+      → AreEqual cmp eq rows (set cmp m k (join_to join (get cmp m k) v))
   upserted a m rows k v up f p =
       let one = (k, v) ∷ [] in
       let stored = join_to join (get cmp m k) v in

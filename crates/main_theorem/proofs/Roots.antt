@@ -17,7 +17,7 @@ use Rattle.merkle_tree_theory.specs.Tree.{Tree}
 use Rattle.merkle_tree_theory.specs.TreeOf.{defined_tree}
 use Rattle.merkle_tree_theory.specs.declared.page_format.PageFormat.{PageFormat}
 use Rattle.merkle_replica.specs.Laws.{Laws}
-use Rattle.main_theorem.specs.After.{tree_under, page_ranges_under, root_hash_under, IsDefinedBy}
+use Rattle.main_theorem.specs.After.{tree_by_settings, page_ranges_under, root_hash_under, IsDefinedBy}
 use Rattle.merkle_replica.specs.Agreeing.{AreEqual}
 
 module _ {K X : Type 0} (cmp : K → K → Ordering) (o : IsTotalOrder cmp) where
@@ -48,10 +48,12 @@ module _ {K H : Type 0} (cmp : K → K → Ordering) (key_digest : H → K → L
   root_as value_digest s t rows h b f = λ i. page_digest (f i) bytes_of (defined_tree (key_digest (h i)) (b i) (digests (value_digest (h i)) rows))
 
 module _ {K V H : Type 0} (laws : Laws K V H) (o : IsTotalOrder laws.cmp) (respects : (h : H) (x y : V) → laws.eq x y ≡ true → laws.value_digest h x ≡ laws.value_digest h y)
-    (only : (hasher : H) (base : ℕ) (m : List (K × List ℕ)) (t : Tree K (List ℕ)) → IsTreeOf laws.cmp (laws.key_digest hasher) base t m → SamePages laws.cmp t (defined_tree (laws.key_digest hasher) base m)) (s : Settings H) where
+    (only : (hasher : H) (base : ℕ) (m : List (K × List ℕ)) (t : Tree K (List ℕ)) → IsTreeOf laws.cmp (laws.key_digest hasher) base t m
+    → SamePages laws.cmp t (defined_tree (laws.key_digest hasher) base m)) (s : Settings H) where
   -- a tree of rows has the pages of the one that any map defines that is equal to them
-  pub pages_are : (t : State K H) (rows m : List (K × V)) → HasSettings s t → IsSound laws.cmp laws.key_digest laws.bytes_of t → SameMap laws.cmp (λ d e. d ≡ e) (map_of t) (digests (laws.value_digest t.hasher) rows)
-      → AreEqual laws.cmp laws.eq rows m → SamePages laws.cmp t.root (tree_under laws s m)
+  pub pages_are : (t : State K H) (rows m : List (K × V)) → HasSettings s t → IsSound laws.cmp laws.key_digest laws.bytes_of t
+      → SameMap laws.cmp (λ d e. d ≡ e) (map_of t) (digests (laws.value_digest t.hasher) rows)
+      → AreEqual laws.cmp laws.eq rows m → SamePages laws.cmp t.root (tree_by_settings laws s m)
   pages_are t rows m set sound digested h =
       let b = digests (laws.value_digest s.hasher) m in
       let own : SameMap laws.cmp (λ d e. d ≡ e) (map_of t) b =
@@ -62,10 +64,12 @@ module _ {K V H : Type 0} (laws : Laws K V H) (o : IsTotalOrder laws.cmp) (respe
 
 module _ {K V H : Type 0} (laws : Laws K V H) (o : IsTotalOrder laws.cmp) (respects : (h : H) (x y : V) → laws.eq x y ≡ true → laws.value_digest h x ≡ laws.value_digest h y)
     (defined : (hasher : H) (base : ℕ) (m : List (K × List ℕ)) → IsTreeOf laws.cmp (laws.key_digest hasher) base (defined_tree (laws.key_digest hasher) base m) m)
-    (only : (hasher : H) (base : ℕ) (m : List (K × List ℕ)) (t : Tree K (List ℕ)) → IsTreeOf laws.cmp (laws.key_digest hasher) base t m → SamePages laws.cmp t (defined_tree (laws.key_digest hasher) base m))
+    (only : (hasher : H) (base : ℕ) (m : List (K × List ℕ)) (t : Tree K (List ℕ)) → IsTreeOf laws.cmp (laws.key_digest hasher) base t m
+    → SamePages laws.cmp t (defined_tree (laws.key_digest hasher) base m))
     (equal : (hasher : H) (base : ℕ) (format : PageFormat) (a b : List (K × List ℕ)) (t u : Tree K (List ℕ)) → SameMap laws.cmp (λ d e. d ≡ e) a b
     → IsTreeOf laws.cmp (laws.key_digest hasher) base t a → IsTreeOf laws.cmp (laws.key_digest hasher) base u b → page_digest format laws.bytes_of t ≡ page_digest format laws.bytes_of u)
-    (ranges : (format : PageFormat) (t u : Tree K (List ℕ)) → SamePages laws.cmp t u → SameEntries laws.cmp (ranges_of format laws.bytes_of t) (ranges_of format laws.bytes_of u)) (s : Settings H) where
+    (ranges : (format : PageFormat) (t u : Tree K (List ℕ)) → SamePages laws.cmp t u
+    → SameEntries laws.cmp (ranges_of format laws.bytes_of t) (ranges_of format laws.bytes_of u)) (s : Settings H) where
   -- equal rows define one root hash
   pub one_hash : (rows m : List (K × V)) → AreEqual laws.cmp laws.eq rows m → root_hash_under laws s rows ≡ root_hash_under laws s m
   one_hash rows m h =
@@ -75,13 +79,14 @@ module _ {K V H : Type 0} (laws : Laws K V H) (o : IsTotalOrder laws.cmp) (respe
       (same_digests laws.cmp laws.eq (laws.value_digest s.hasher) (respects s.hasher) rows m h) (defined s.hasher s.base a) (defined s.hasher s.base b)
 
   -- where it is hashed, it is what such a map defines
-  pub is_defined : (t : State K H) (rows m : List (K × V)) → HasSettings s t → IsSound laws.cmp laws.key_digest laws.bytes_of t → SameMap laws.cmp (λ d e. d ≡ e) (map_of t) (digests (laws.value_digest t.hasher) rows)
+  pub is_defined : (t : State K H) (rows m : List (K × V)) → HasSettings s t → IsSound laws.cmp laws.key_digest laws.bytes_of t
+      → SameMap laws.cmp (λ d e. d ≡ e) (map_of t) (digests (laws.value_digest t.hasher) rows)
       → t.root_hash ≡ Some (root_hash_under laws s rows) → AreEqual laws.cmp laws.eq rows m → IsDefinedBy laws s m t
   is_defined t rows m set sound digested root h =
       let pages = pages_are laws o respects only s t rows m set sound digested h in
       record {
         pages = pages;
-        ranges = subst (λ f. SameEntries laws.cmp (ranges_of f laws.bytes_of t.root) (page_ranges_under laws s m)) (sym set.2) (ranges s.format t.root (tree_under laws s m) pages);
+        ranges = subst (λ f. SameEntries laws.cmp (ranges_of f laws.bytes_of t.root) (page_ranges_under laws s m)) (sym set.2) (ranges s.format t.root (tree_by_settings laws s m) pages);
         root_hash = root ∙ ap Some (one_hash rows m h);
       }
 

@@ -50,14 +50,14 @@ settings_of tree = record { hasher = tree.hasher; base = tree.base; format = tre
 
 module _ {K V H : Type 0} (laws : Laws K V H) where
   -- the tree that a map defines under the settings of a builder, its page ranges, and its root hash
-  abbrev pub tree_under : Settings H → List (K × V) → Tree K (List ℕ)
-  tree_under s m = defined_tree (laws.key_digest s.hasher) s.base (digests (laws.value_digest s.hasher) m)
+  abbrev pub tree_by_settings : Settings H → List (K × V) → Tree K (List ℕ)
+  tree_by_settings s m = defined_tree (laws.key_digest s.hasher) s.base (digests (laws.value_digest s.hasher) m)
 
   abbrev pub page_ranges_under : Settings H → List (K × V) → List (Entry K (List ℕ))
-  page_ranges_under s m = ranges_of s.format laws.bytes_of (tree_under s m)
+  page_ranges_under s m = ranges_of s.format laws.bytes_of (tree_by_settings s m)
 
   abbrev pub root_hash_under : Settings H → List (K × V) → List ℕ
-  root_hash_under s m = page_digest s.format laws.bytes_of (tree_under s m)
+  root_hash_under s m = page_digest s.format laws.bytes_of (tree_by_settings s m)
 
   -- the tree has the root hash that a map defines
   abbrev pub HasRootHashOf : Settings H → List (K × V) → State K H → Type 0
@@ -74,25 +74,25 @@ module _ {K V H : Type 0} (laws : Laws K V H) where
 
   -- an update that takes no memory was accepted: hashing, and a removal of a key that the map hasn't, or beside which a gap is empty in the
   -- tree that the map defines
-  abbrev pub IsAcceptedIfFree : Settings H → List (K × V) → Update K V → Bool → Type 0
-  IsAcceptedIfFree s m (Upsert k v) accepted = ⊤
-  IsAcceptedIfFree s m (Remove k) accepted = (has_key laws.cmp m k ≡ false) ⊎ HasFreeGap laws.cmp k (tree_under s m) → accepted ≡ true
-  IsAcceptedIfFree s m RootHash accepted = accepted ≡ true
+  abbrev pub IsFreeUpdateAccepted : Settings H → List (K × V) → Update K V → Bool → Type 0
+  IsFreeUpdateAccepted s m (Upsert k v) accepted = ⊤
+  IsFreeUpdateAccepted s m (Remove k) accepted = (has_key laws.cmp m k ≡ false) ⊎ HasFreeGap laws.cmp k (tree_by_settings s m) → accepted ≡ true
+  IsFreeUpdateAccepted s m RootHash accepted = accepted ≡ true
 
   -- so was each of the updates, from the map m on
-  abbrev pub FreeAreAccepted : Settings H → List (K × V) → List (Update K V) → List Bool → Type 0
-  FreeAreAccepted s m [] accepted = ⊤
-  FreeAreAccepted s m (u ∷ us) [] = ⊤
-  FreeAreAccepted s m (u ∷ us) (a ∷ accepted) = IsAcceptedIfFree s m u a × FreeAreAccepted s (rows_after_one laws.cmp laws.join m u a) us accepted
+  abbrev pub FreeUpdatesAreAccepted : Settings H → List (K × V) → List (Update K V) → List Bool → Type 0
+  FreeUpdatesAreAccepted s m [] accepted = ⊤
+  FreeUpdatesAreAccepted s m (u ∷ us) [] = ⊤
+  FreeUpdatesAreAccepted s m (u ∷ us) (a ∷ accepted) = IsFreeUpdateAccepted s m u a × FreeUpdatesAreAccepted s (rows_after_one laws.cmp laws.join m u a) us accepted
 
   -- so was an update of a tree whose rows are equal to a map, under the settings of the tree
   abbrev pub IsAcceptedBy : Contents K V H → Update K V → Bool → Type 0
   IsAcceptedBy replica update accepted = (s : Settings H) (m : List (K × V)) → HasSettings s replica.tree
-      → AreEqual laws.cmp laws.eq replica.rows m → IsAcceptedIfFree s m update accepted
+      → AreEqual laws.cmp laws.eq replica.rows m → IsFreeUpdateAccepted s m update accepted
 
   -- a tree has the pages of the one that a map defines, apart from caches, its page ranges, and its root hash
   pub record IsDefinedBy (s : Settings H) (m : List (K × V)) (tree : State K H) : Type 0 where
-    pub pages : SamePages laws.cmp tree.root (tree_under s m)
+    pub pages : SamePages laws.cmp tree.root (tree_by_settings s m)
     pub ranges : SameEntries laws.cmp (ranges_of tree.format laws.bytes_of tree.root) (page_ranges_under s m)
     pub root_hash : tree.root_hash ≡ Some (root_hash_under s m)
 

@@ -24,26 +24,26 @@ IsEnough ByCatchUps = ⊤
 
 module _ {K : Type 0} where
   -- what was asked for was done
-  abbrev pub IsDone : Exchange → Exchanged K → Type 0
-  IsDone Apart Nothing = ⊤
-  IsDone Apart (Pulled pulls) = ⊥
-  IsDone Apart (CaughtUp first second) = ⊥
-  IsDone (ByTurns n) Nothing = ⊥
-  IsDone (ByTurns n) (Pulled pulls) = length pulls.items ≡ n
-  IsDone (ByTurns n) (CaughtUp first second) = ⊥
-  IsDone ByCatchUps Nothing = ⊥
-  IsDone ByCatchUps (Pulled pulls) = ⊥
-  IsDone ByCatchUps (CaughtUp first second) = ⊤
+  abbrev pub IsExchangeDone : Exchange → Exchanged K → Type 0
+  IsExchangeDone Apart Nothing = ⊤
+  IsExchangeDone Apart (Pulled pulls) = ⊥
+  IsExchangeDone Apart (CaughtUp first second) = ⊥
+  IsExchangeDone (ByTurns n) Nothing = ⊥
+  IsExchangeDone (ByTurns n) (Pulled pulls) = length pulls.items ≡ n
+  IsExchangeDone (ByTurns n) (CaughtUp first second) = ⊥
+  IsExchangeDone ByCatchUps Nothing = ⊥
+  IsExchangeDone ByCatchUps (Pulled pulls) = ⊥
+  IsExchangeDone ByCatchUps (CaughtUp first second) = ⊤
 
   -- where a run stopped: before the exchange, or in it, after fewer pulls than were asked for
-  abbrev pub IsStopped : Exchange → RunRefused K → Type 0
-  IsStopped exchange Before = ⊤
-  IsStopped Apart (InTurns error) = ⊥
-  IsStopped Apart (InCatchUps error) = ⊥
-  IsStopped (ByTurns n) (InTurns error) = length error.finished.items < n
-  IsStopped (ByTurns n) (InCatchUps error) = ⊥
-  IsStopped ByCatchUps (InTurns error) = ⊥
-  IsStopped ByCatchUps (InCatchUps error) = ⊤
+  abbrev pub IsRunStopped : Exchange → RunRefused K → Type 0
+  IsRunStopped exchange Before = ⊤
+  IsRunStopped Apart (InTurns error) = ⊥
+  IsRunStopped Apart (InCatchUps error) = ⊥
+  IsRunStopped (ByTurns n) (InTurns error) = length error.finished.items < n
+  IsRunStopped (ByTurns n) (InCatchUps error) = ⊥
+  IsRunStopped ByCatchUps (InTurns error) = ⊥
+  IsRunStopped ByCatchUps (InCatchUps error) = ⊤
 
 module _ {K V H : Type 0} (laws : Laws K V H) where
   -- a side with the settings of a builder, and with rows equal to a map

@@ -5,7 +5,7 @@ use Rattle.merkle_tree_theory.specs.Settings.{Settings}
 use Rattle.merkle_replica.specs.Contents.{Side}
 use Rattle.merkle_replica.specs.Faithful.{AllFaithful}
 use Rattle.merkle_replica.specs.Laws.{Laws}
-use Rattle.main_theorem.specs.After.{FreeAreAccepted, IsDefinedBy, rows_after}
+use Rattle.main_theorem.specs.After.{FreeUpdatesAreAccepted, IsDefinedBy, rows_after}
 use Rattle.merkle_replica.specs.Agreeing.{AreEqual}
 use Rattle.main_theorem.specs.Course.{IsCourse, IsEnough, AreOne}
 use Rattle.main_theorem.specs.declared.course.Exchange.{Exchange}
@@ -18,8 +18,8 @@ AreAnswered updates outcome = length outcome.accepted.items ≡ length updates
 
 module _ {K V H : Type 0} {N : ℕ} (laws : Laws K V H) where
   -- those of a replica's updates that take no memory are accepted
-  abbrev pub AcceptsTheFree : Settings H → List (Update K V) → Outcome K V H N → Type 0
-  AcceptsTheFree s updates outcome = FreeAreAccepted laws s [] updates outcome.accepted.items
+  abbrev pub AcceptsFreeUpdates : Settings H → List (Update K V) → Outcome K V H N → Type 0
+  AcceptsFreeUpdates s updates outcome = FreeUpdatesAreAccepted laws s [] updates outcome.accepted.items
 
   -- the map of its accepted updates
   abbrev pub own_map : List (Update K V) → Outcome K V H N → List (K × V)
@@ -31,7 +31,7 @@ module _ {K V H : Type 0} {N : ℕ} (laws : Laws K V H) where
 
   -- those of both replicas' updates that take no memory are accepted
   abbrev pub AcceptTheFree : Settings H → List (Update K V) → List (Update K V) → Run K V H N → Type 0
-  AcceptTheFree s a_updates b_updates run = AcceptsTheFree s a_updates run.a × AcceptsTheFree s b_updates run.b
+  AcceptTheFree s a_updates b_updates run = AcceptsFreeUpdates s a_updates run.a × AcceptsFreeUpdates s b_updates run.b
 
   -- before the exchange its tree was the one that the map of its accepted updates defines
   abbrev pub HadTheDefinedTree : Settings H → List (Update K V) → Outcome K V H N → Type 0

@@ -2,7 +2,7 @@
 ghost use Rattle.std.specs.Prelude.{◌≡◌, [], IfOk, length};
 ghost use Rattle.key_order.specs.Order.{Same};
 ghost use Rattle.merkle_tree_theory.specs.State.{HasSettings, SameSettings};
-ghost use Rattle.main_theorem.specs.After.{FreeAreAccepted, HasRootHashOf, IsAcceptedBy, IsCarriedOut, IsDefinedTreeOf, IsHashedLast, rows_after};
+ghost use Rattle.main_theorem.specs.After.{FreeUpdatesAreAccepted, HasRootHashOf, IsAcceptedBy, IsCarriedOut, IsDefinedTreeOf, IsHashedLast, rows_after};
 ghost use Rattle.merkle_replica.specs.Agreeing.{AreEqual};
 
 use merkle_digest::Key;
@@ -52,7 +52,7 @@ where
     V: Join + Drop,
     H: RowHasher<N, K, V> + Drop,
     ensures answers { IfOk result (λ r. length r.1.items ≡ length updates.items) }
-    ensures free { IfOk result (λ r. FreeAreAccepted H.laws builder [] updates.items r.1.items) }
+    ensures free { IfOk result (λ r. FreeUpdatesAreAccepted H.laws builder [] updates.items r.1.items) }
     ensures rows { IfOk result (λ r. AreEqual K.cmp V.eq r.0.rows (rows_after K.cmp V.join_of updates.items r.1.items)) }
     ensures settings { IfOk result (λ r. HasSettings builder r.0.tree) }
     ensures root_hash { IfOk result (λ r. HasRootHashOf H.laws builder r.0.rows r.0.tree) }

@@ -2,7 +2,7 @@
 ghost use Rattle.std.specs.Prelude.{◌≡◌, IfOk, IfErr, Some};
 ghost use Rattle.key_order.specs.Order.{Same};
 ghost use Rattle.merkle_tree_theory.specs.State.{SameSettings};
-ghost use Rattle.main_theorem.specs.Course.{ComeTogether, IsDone, IsStopped};
+ghost use Rattle.main_theorem.specs.Course.{ComeTogether, IsExchangeDone, IsRunStopped};
 ghost use Rattle.main_theorem.specs.Refusals.{run_text};
 
 use merkle_digest::Key;
@@ -69,9 +69,9 @@ pub(crate) fn come_together<K: Key + Drop, V: Join + Drop, H: RowHasher<N, K, V>
     b: &mut Replica<K, V, H, N>,
     exchange: Exchange,
 ) -> Result<Exchanged<K>, RunRefused<K>>
-    ensures done { IfOk result (λ exchanged. IsDone exchange exchanged) }
+    ensures done { IfOk result (λ exchanged. IsExchangeDone exchange exchanged) }
     ensures converges { IfOk result (ComeTogether H.laws exchange a.old b.old a.new b.new) }
-    ensures stopped { IfErr result (λ refused. IsStopped exchange refused) }
+    ensures stopped { IfErr result (λ refused. IsRunStopped exchange refused) }
     ensures a_settings { SameSettings a.old.tree a.new.tree }
     ensures b_settings { SameSettings b.old.tree b.new.tree }
 {

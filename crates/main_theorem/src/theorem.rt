@@ -1,7 +1,7 @@
 //! The main theorem.
 ghost use Rattle.std.specs.Prelude.{◌≡◌, IfOk, IfErr};
 ghost use Rattle.key_order.specs.Order.{Same};
-ghost use Rattle.main_theorem.specs.Course.{IsDone, IsStopped};
+ghost use Rattle.main_theorem.specs.Course.{IsExchangeDone, IsRunStopped};
 ghost use Rattle.main_theorem.specs.Runs.{AreAnswered, AcceptTheFree, HadTheDefinedTrees, HaveTheirMaps, HasTheDefinedTree, Converge};
 ghost use Rattle.main_theorem.specs.declared.course.Exchange.TheVariants.{Apart};
 
@@ -50,7 +50,7 @@ pub struct Run<K: Key, V: Join, H: Hasher<N, K> + ValueHasher<N, V>, const N: us
 /// memory and is always accepted, and so is a removal of a key that isn't there, or beside which a gap is empty in the tree that the map
 /// defines. Of each other update nothing says that it is accepted, since nothing says when memory runs out.
 ///
-/// ```rust crates/theorem_tests/src/random_runs.rt
+/// ```rust crates/main_theorem_tests/src/random_runs.rt
 /// fn run_both(
 ///     alloc: Global,
 ///     builder: Builder<LevelHasher<[u8; 2]>>,
@@ -96,14 +96,14 @@ where
     ensures b_defined { IfOk result (λ r. HasTheDefinedTree H.laws builder r.b) }
 
     // The exchange was the one that was asked for.
-    ensures exchanged { IfOk result (λ r. IsDone exchange r.exchanged) }
+    ensures exchanged { IfOk result (λ r. IsExchangeDone exchange r.exchanged) }
 
     // While digests are faithful in what was met on the way, four pulls by turns or more, or a catch-up each way, leave both replicas with
     // the join of the two maps, and one root hash.
     ensures converges { IfOk result (Converge H.laws builder a_updates.items b_updates.items exchange) }
 
     // A run is refused before the exchange, or in the one that was asked for.
-    ensures refused { IfErr result (λ refused. IsStopped exchange refused) }
+    ensures refused { IfErr result (λ refused. IsRunStopped exchange refused) }
 {
     a_map_has_one_tree::<K, H, N>();
     equal_pages_have_equal_maps::<K>();

@@ -23,7 +23,7 @@ use Rattle.merkle_tree_theory.specs.declared.page_format.PageFormat.{PageFormat}
 use Rattle.merkle_tree_theory.proofs.PagesIn.{itself}
 use Rattle.merkle_tree_theory.proofs.RangesOfMap.{lists, same_part}
 use Rattle.merkle_digest.specs.Level.{level_of}
-use Rattle.merkle_audit.specs.Pages.{HasNoPage}
+use Rattle.merkle_audit.specs.Pages.{LacksPageDigest}
 use Rattle.merkle_audit.proofs.PagesBySpan.{entry_at, of_page, page_without_pairs, span_pairs}
 
 module _ {K : Type 0} (cmp : K → K → Ordering) (a b : List (K × List ℕ)) where
@@ -94,10 +94,10 @@ module _ {K : Type 0} (cmp : K → K → Ordering) (o : IsTotalOrder cmp) where
       listing = lists cmp o digest_of base format bytes_of m (ranges_of format bytes_of root) own.ascending (root, own.of_map, refl)
 
       -- where only pages without pairs have a digest, no entry has it
-      no_page : (d : List ℕ) → ((s : Tree K (List ℕ)) → IsPageOf cmp digest_of base s m → d ≡ page_digest format bytes_of s → pairs s ≡ []) → HasNoPage d (ranges_of format bytes_of root)
+      no_page : (d : List ℕ) → ((s : Tree K (List ℕ)) → IsPageOf cmp digest_of base s m → d ≡ page_digest format bytes_of s → pairs s ≡ []) → LacksPageDigest d (ranges_of format bytes_of root)
       no_page d none = by (ranges_of format bytes_of root) listing
         where
-          by : (es : List (Entry K (List ℕ))) → IsListing cmp (IsPageOf cmp digest_of base) (page_digest format bytes_of) pairs m es → HasNoPage d es
+          by : (es : List (Entry K (List ℕ))) → IsListing cmp (IsPageOf cmp digest_of base) (page_digest format bytes_of) pairs m es → LacksPageDigest d es
           by [] l = tt
           by (e ∷ es) l =
               each-with (λ f. (s : Tree K (List ℕ)) × IsPageOf cmp digest_of base s m × (page_digest format bytes_of s ≡ f.digest)
@@ -123,8 +123,8 @@ module _ {K : Type 0} (cmp : K → K → Ordering) (o : IsTotalOrder cmp) where
     AreFaithful = HasFaithfulPages cmp (IsPageOf cmp da base_a) (IsPageOf cmp db base_b) (page_digest fa bytes_of) (page_digest fb bytes_of) pairs a b
 
     -- so they have where the page ranges tell maps, and no page of one side has the digest of the other's empty page
-    pub told_pages : AllMapsTold cmp a b (ranges_of fa bytes_of t) (ranges_of fb bytes_of u) → (a ≡ [] → HasNoPage (page_digest fa bytes_of t) (ranges_of fb bytes_of u))
-        → (b ≡ [] → HasNoPage (page_digest fb bytes_of u) (ranges_of fa bytes_of t)) → AreFaithful
+    pub told_pages : AllMapsTold cmp a b (ranges_of fa bytes_of t) (ranges_of fb bytes_of u) → (a ≡ [] → LacksPageDigest (page_digest fa bytes_of t) (ranges_of fb bytes_of u))
+        → (b ≡ [] → LacksPageDigest (page_digest fb bytes_of u) (ranges_of fa bytes_of t)) → AreFaithful
     told_pages tell no_a no_b s v of_a of_b same = go (pairs s) refl (pairs v) refl
       where
         go : (xs : List (K × List ℕ)) → pairs s ≡ xs → (ys : List (K × List ℕ)) → pairs v ≡ ys → SameMap cmp (λ d c. d ≡ c) xs ys
@@ -157,12 +157,12 @@ module _ {K : Type 0} (cmp : K → K → Ordering) (o : IsTotalOrder cmp) where
           (λ f (v, of_b, dy, n) same. same_across cmp o (pairs s) (pairs v) (entry_rows cmp e a) (entry_rows cmp f b) m n (faithful s v of_a of_b (dx ∙ same ∙ sym dy)))
           (listing db base_b fb bytes_of b u own_b).pages) (listing da base_a fa bytes_of a t own_a).pages
 
-      pub first_alone : a ≡ [] → HasNoPage (page_digest fa bytes_of t) (ranges_of fb bytes_of u)
+      pub first_alone : a ≡ [] → LacksPageDigest (page_digest fa bytes_of t) (ranges_of fb bytes_of u)
       first_alone none =
           no_page db base_b fb bytes_of b u own_b (page_digest fa bytes_of t) (λ v of_b same.
           none_same (pairs t) (pairs v) (faithful t v (t, own_a.of_map, itself t) of_b same) (none_back (pairs t) a own_a.of_map.1 none))
 
-      pub second_alone : b ≡ [] → HasNoPage (page_digest fb bytes_of u) (ranges_of fa bytes_of t)
+      pub second_alone : b ≡ [] → LacksPageDigest (page_digest fb bytes_of u) (ranges_of fa bytes_of t)
       second_alone none =
           no_page da base_a fa bytes_of a t own_a (page_digest fb bytes_of u) (λ s of_a same.
           none_back (pairs s) (pairs u) (faithful s u of_a (u, own_b.of_map, itself u) (sym same)) (none_back (pairs u) b own_b.of_map.1 none))

@@ -12,7 +12,7 @@ use Rattle.merkle_tree_theory.specs.Outline.{Item, of_node, of_page}
 use Rattle.merkle_tree_theory.specs.State.{State}
 use Rattle.merkle_wire.specs.Outlines.{keys_among, nodes_among}
 use Rattle.merkle_wire.proofs.ItemsMore.{map_more, nodes_among-append}
-use Rattle.merkle_audit.specs.Nodes.{AreFaithful, AreLookedAt, Differ, HasAll, HasDigests, gaps_among, items_over}
+use Rattle.merkle_audit.specs.Nodes.{AreFaithful, AreLookedAt, Differ, HasAll, HasDigests, gaps_among, page_items_over}
 
 pub gaps_among-append : {K : Type 0} (xs ys : List (Item K (List ℕ))) → gaps_among (xs ++ ys) ≡ gaps_among xs ++ gaps_among ys
 gaps_among-append [] ys = refl
@@ -90,9 +90,9 @@ module _ {K V H : Type 0} (laws : Laws K V H) (local : Side K V H) where
   differ_faithful nodes differ ds own same = absurd (differ ds own same)
 
   -- one page more is looked at
-  pub looked_more : (tree : State K H) (gaps below : List (Gap K)) (g : Gap K) → AreLookedAt laws local tree gaps below → AreFaithful laws local (nodes_among (items_over laws tree g))
-      → AreLookedAt laws local tree (gaps ++ g ∷ []) (below ++ gaps_among (items_over laws tree g))
+  pub looked_more : (tree : State K H) (gaps below : List (Gap K)) (g : Gap K) → AreLookedAt laws local tree gaps below → AreFaithful laws local (nodes_among (page_items_over laws tree g))
+      → AreLookedAt laws local tree (gaps ++ g ∷ []) (below ++ gaps_among (page_items_over laws tree g))
   looked_more tree gaps below g a f = (
-    each-append (λ h. AreFaithful laws local (nodes_among (items_over laws tree h))) gaps (g ∷ []) a.0 (f, tt),
-    ap₂ (λ xs ys. xs ++ ys) a.1 (sym (append-nil (gaps_among (items_over laws tree g)))) ∙ sym (flat_map-append (λ h. gaps_among (items_over laws tree h)) gaps (g ∷ [])),
+    each-append (λ h. AreFaithful laws local (nodes_among (page_items_over laws tree h))) gaps (g ∷ []) a.0 (f, tt),
+    ap₂ (λ xs ys. xs ++ ys) a.1 (sym (append-nil (gaps_among (page_items_over laws tree g)))) ∙ sym (flat_map-append (λ h. gaps_among (page_items_over laws tree h)) gaps (g ∷ [])),
   )

@@ -23,7 +23,7 @@ use Rattle.merkle_tree_theory.proofs.PageOverGap.{filled_opens}
 use Rattle.merkle_tree_theory.proofs.PagesIn.{itself, page_in}
 use Rattle.merkle_wire.specs.Outlines.{nodes_among}
 use Rattle.merkle_wire.proofs.PagesBelow.{items_in, map_inside, nodes_are}
-use Rattle.merkle_audit.specs.Nodes.{AreFaithful, AreFaithfulIn, AreLookedAt, gaps_among, items_over}
+use Rattle.merkle_audit.specs.Nodes.{AreFaithful, AreFaithfulIn, AreLookedAt, gaps_among, page_items_over}
 
 module _ {K V H : Type 0} (laws : Laws K V H) (local : Side K V H) (tree : State K H) where
   -- the page is in one that fills the gap
@@ -95,10 +95,10 @@ module _ {K V H : Type 0} (laws : Laws K V H) (local : Side K V H) (tree : State
         by (below t) (inr j) here rest = inr (rest j)
 
     abbrev gaps_below : Gap K → List (Gap K)
-    gaps_below g = gaps_among (items_over laws tree g)
+    gaps_below g = gaps_among (page_items_over laws tree g)
 
     -- a page in one that fills a gap is that one, or in one of those right below it
-    one_looked_at : (s : Tree K (List ℕ)) (g : Gap K) → IsOver s g → AreFaithful laws local (nodes_among (items_over laws tree g)) → IsFaithfulPage s ⊎ AnyByRecursion (IsOver s) (gaps_below g)
+    one_looked_at : (s : Tree K (List ℕ)) (g : Gap K) → IsOver s g → AreFaithful laws local (nodes_among (page_items_over laws tree g)) → IsFaithfulPage s ⊎ AnyByRecursion (IsOver s) (gaps_below g)
     one_looked_at s g (t, f, i) faithful = by t f i
       where
         by : (t : Tree K (List ℕ)) → Fills laws.cmp g t tree.root → IsPageIn s t → IsFaithfulPage s ⊎ AnyByRecursion (IsOver s) (gaps_below g)
@@ -113,7 +113,7 @@ module _ {K V H : Type 0} (laws : Laws K V H) (local : Side K V H) (tree : State
             go (inl e) here more = inl (subst IsFaithfulPage (sym e) here)
             go (inr j) here more = inr (more j)
 
-    any_looked_at : (s : Tree K (List ℕ)) (gaps : List (Gap K)) → AllByRecursion (λ g. AreFaithful laws local (nodes_among (items_over laws tree g))) gaps → AnyByRecursion (IsOver s) gaps
+    any_looked_at : (s : Tree K (List ℕ)) (gaps : List (Gap K)) → AllByRecursion (λ g. AreFaithful laws local (nodes_among (page_items_over laws tree g))) gaps → AnyByRecursion (IsOver s) gaps
         → IsFaithfulPage s ⊎ AnyByRecursion (IsOver s) (flat_map gaps_below gaps)
     any_looked_at s [] a i = absurd i
     any_looked_at s (g ∷ gs) a (inl i) = go (one_looked_at s g i a.0)

@@ -20,8 +20,8 @@ gaps_among (of_node k d ∷ xs) = gaps_among xs
 gaps_among (of_page g d ∷ xs) = g ∷ gaps_among xs
 
 -- the items of the page over a gap
-abbrev pub items_over : {K V H : Type 0} → Laws K V H → State K H → Gap K → List (Item K (List ℕ))
-items_over laws tree g = outline_over tree.format laws.bytes_of laws.cmp tree.root g
+abbrev pub page_items_over : {K V H : Type 0} → Laws K V H → State K H → Gap K → List (Item K (List ℕ))
+page_items_over laws tree g = outline_over tree.format laws.bytes_of laws.cmp tree.root g
 
 module _ {K V H : Type 0} (laws : Laws K V H) (local : Side K V H) where
   -- the side has these digests of values at the keys of the nodes
@@ -47,5 +47,5 @@ module _ {K V H : Type 0} (laws : Laws K V H) (local : Side K V H) where
   -- so are those of each page over one of the gaps, and these are the gaps of the pages right below
   abbrev pub AreLookedAt : State K H → List (Gap K) → List (Gap K) → Type 0
   AreLookedAt tree gaps below =
-      AllByRecursion (λ g. AreFaithful (nodes_among (items_over laws tree g))) gaps
-      × (below ≡ flat_map (λ g. gaps_among (items_over laws tree g)) gaps)
+      AllByRecursion (λ g. AreFaithful (nodes_among (page_items_over laws tree g))) gaps
+      × (below ≡ flat_map (λ g. gaps_among (page_items_over laws tree g)) gaps)

@@ -15,13 +15,13 @@ abbrev pub row_digests : {K V H : Type 0} → (H → V → List ℕ) → Content
 row_digests value_digest c = digests (value_digest c.tree.hasher) c.rows
 
 -- none of the entries has the digest
-abbrev pub HasNoPage : {K : Type 0} → List ℕ → List (Entry K (List ℕ)) → Type 0
-HasNoPage digest = AllByRecursion (λ e. digest ≡ e.digest → ⊥)
+abbrev pub LacksPageDigest : {K : Type 0} → List ℕ → List (Entry K (List ℕ)) → Type 0
+LacksPageDigest digest = AllByRecursion (λ e. digest ≡ e.digest → ⊥)
 
 module _ {K V H : Type 0} (cmp : K → K → Ordering) (value_digest : H → V → List ℕ) (a b : Contents K V H) where
   -- two rows have equal keys, and values with one digest, each by the hasher of its replica
-  abbrev pub AreAlike : K × V → K × V → Type 0
-  AreAlike r s = Same cmp r.0 s.0 × (value_digest a.tree.hasher r.1 ≡ value_digest b.tree.hasher s.1)
+  abbrev pub AreRowsAlike : K × V → K × V → Type 0
+  AreRowsAlike r s = Same cmp r.0 s.0 × (value_digest a.tree.hasher r.1 ≡ value_digest b.tree.hasher s.1)
 
   -- so have all rows of two lists, place by place
   abbrev pub AreAllAlike : List (K × V) → List (K × V) → Type 0
@@ -42,5 +42,5 @@ module _ {K V H : Type 0} (cmp : K → K → Ordering) (value_digest : H → V �
   -- and where one replica has no row, no entry of the other has the digest of its empty page
   pub record TellAll (bytes_of : K → List ℕ) (es fs : List (Entry K (List ℕ))) : Type 0 where
     pub maps : TellMaps es fs
-    pub first_alone : a.rows ≡ [] → HasNoPage (root_digest bytes_of a.tree) fs
-    pub second_alone : b.rows ≡ [] → HasNoPage (root_digest bytes_of b.tree) es
+    pub first_alone : a.rows ≡ [] → LacksPageDigest (root_digest bytes_of a.tree) fs
+    pub second_alone : b.rows ≡ [] → LacksPageDigest (root_digest bytes_of b.tree) es

@@ -1,9 +1,9 @@
 //! Whether the nodes of a page of a peer and this side's own digests at their keys are equal where their digests are.
 ghost use Rattle.std.specs.Prelude.{◌≡◌, ◌++◌, IfOk, IfSome, IsSome, IsTrue, OnOk};
-ghost use Rattle.merkle_audit.specs.Nodes.{AreFaithful, AreFaithfulIn, AreLookedAt, Differ, HasAll, gaps_among, items_over};
+ghost use Rattle.merkle_audit.specs.Nodes.{AreFaithful, AreFaithfulIn, AreLookedAt, Differ, HasAll, gaps_among, page_items_over};
 ghost use Rattle.merkle_replica.specs.Contents.{side};
 ghost use Rattle.merkle_replica.specs.Descent.{HasDigestAt, gaps_of};
-ghost use Rattle.merkle_search_tree.specs.Items.{gap_of, items};
+ghost use Rattle.merkle_search_tree.specs.Items.{lent_gap, items};
 ghost use Rattle.merkle_tree_theory.specs.State.{SameSettings};
 ghost use Rattle.merkle_wire.specs.Outlines.{nodes_among};
 ghost use Rattle.merkle_wire.specs.Sessions.{HaveFaithfulNodes};
@@ -93,7 +93,7 @@ fn outline_over<'a, K: Key + Drop, V: Join + Drop, H: RowHasher<N, K, V>, const 
     gap: &Gap<'a, K>,
 ) -> Result<Vec<OutlineItem<'a, N, K>>, AllocError>
     requires { IsSome replica.now.tree.root_hash }
-    ensures { IfOk result (λ list. items list.items ≡ items_over H.laws replica.now.tree (gap_of gap.now)) }
+    ensures { IfOk result (λ list. items list.items ≡ page_items_over H.laws replica.now.tree (lent_gap gap.now)) }
 {
     match replica.tree().outline(gap.copied())? {
         Some(list) => Ok(list),

@@ -9,7 +9,7 @@ ghost use Rattle.merkle_replica.specs.Faithful.{HaveFaithfulPages};
 ghost use Rattle.merkle_search_tree.specs.Pages.{root_digest};
 ghost use Rattle.merkle_tree_theory.specs.Listing.{entry_rows};
 ghost use Rattle.merkle_tree_theory.specs.State.{SameSettings};
-ghost use Rattle.merkle_audit.specs.Pages.{AreAlike, AreAllAlike, HasNoPage, TellsMap, TellsMaps, TellMaps, TellAll};
+ghost use Rattle.merkle_audit.specs.Pages.{AreRowsAlike, AreAllAlike, LacksPageDigest, TellsMap, TellsMaps, TellMaps, TellAll};
 
 use key_order::is_below;
 use merkle_diff::PageRange;
@@ -25,7 +25,7 @@ use std::alloc::AllocError;
 /// two pages with equal digests it finds the rows of both by halving, compares their keys, and hashes their values: where the replicas are equal,
 /// once for each level of pages.
 ///
-/// ```rust crates/audit_tests/src/no_bytes.rt
+/// ```rust crates/merkle_audit_tests/src/no_bytes.rt
 /// let mut a = texts(alloc, keys)?;
 /// let mut b = texts(alloc, others)?;
 /// have_faithful_pages(&mut a, &mut b)
@@ -184,7 +184,7 @@ fn are_alike<K: Key + Drop, V: Join + Drop, H: RowHasher<N, K, V>, const N: usiz
     b: &Replica<K, V, H, N>,
     other: &(K, V),
 ) -> bool
-    ensures { IsTrue result ↔ AreAlike K.cmp ⟦<H as Hasher<N, V>>⟧.digest_of a.now b.now row.now other.now }
+    ensures { IsTrue result ↔ AreRowsAlike K.cmp ⟦<H as Hasher<N, V>>⟧.digest_of a.now b.now row.now other.now }
 {
     if !row.0.cmp(&other.0).is_eq() {
         return false;
@@ -238,7 +238,7 @@ fn lack_empty_page<K: Key + Drop, V: Join + Drop, H: RowHasher<N, K, V>, const N
     ranges: &[PageRange<'_, K>],
 ) -> bool
     requires { IsSome replica.now.tree.root_hash }
-    ensures { IsTrue result ↔ (replica.now.rows ≡ [] → HasNoPage (root_digest K.bytes_of replica.now.tree) (entries ranges.now)) }
+    ensures { IsTrue result ↔ (replica.now.rows ≡ [] → LacksPageDigest (root_digest K.bytes_of replica.now.tree) (entries ranges.now)) }
 {
     if !replica.rows().is_empty() {
         return true;
@@ -251,7 +251,7 @@ fn lack_empty_page<K: Key + Drop, V: Join + Drop, H: RowHasher<N, K, V>, const N
 
 /// Whether none of the pages has the digest.
 fn lack_digest<K: Ord>(digest: &Digest<16>, ranges: &[PageRange<'_, K>]) -> bool
-    ensures { IsTrue result ↔ HasNoPage digest.now (entries ranges.now) }
+    ensures { IsTrue result ↔ LacksPageDigest digest.now (entries ranges.now) }
 {
     'pages: for range in ranges {
         if is_digest(range, digest) {

@@ -130,7 +130,8 @@ parts_told last key left rest own behind kept more long is e =
     (fronts.0, rests.0, rests.1)
 
 -- counts that stand there are those of the key, and as many bytes are left as it has more
-pub counts_told : (last key left rest behind : List ℕ) (kept more : ℕ) → left ≡ front_bytes kept more ++ behind → left ≡ key_behind last key ++ rest → (kept ≡ kept_of last key) × (more ≤ length behind)
+pub counts_told : (last key left rest behind : List ℕ) (kept more : ℕ) → left ≡ front_bytes kept more ++ behind → left ≡ key_behind last key ++ rest
+    → (kept ≡ kept_of last key) × (more ≤ length behind)
 counts_told last key left rest behind kept more is e =
     let s = kept_of last key in
     let fronts = front_told kept more s (length key - s) behind (drop s key ++ rest) (sym is ∙ behind_parts last key left rest e) in

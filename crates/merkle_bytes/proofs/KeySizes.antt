@@ -18,7 +18,8 @@ count_two n high = omega (arith, ap length (bits_more 9 n (omega arith) high), b
 kept_bounded : (kept more : ℕ) → kept ≤ 255 → (kept ≤ 251 + length (front_bytes kept more)) × (kept ≤ 64 * length (front_bytes kept more))
 kept_bounded kept more few = elim (fit_or_not kept more) [
   | inl short ↦ (let one = ap length (front_few kept more short.0 short.1) in (omega (arith, short.0, one), omega (arith, short.0, one)))
-  | inr long ↦ (let both : length (front_bytes kept more) ≡ 1 + length (count_bytes kept) + length (count_bytes more) = omega (arith, ap length (front_long kept more long), length-append (count_bytes kept) (count_bytes more)) in
+  | inr long ↦ (let both : length (front_bytes kept more) ≡ 1 + length (count_bytes kept) + length (count_bytes more) =
+      omega (arith, ap length (front_long kept more long), length-append (count_bytes kept) (count_bytes more)) in
       elim (cases_lt kept 128) [
         | inl low ↦ (omega (arith, low, both), omega (arith, low, both, count_some kept, count_some more))
         | inr high ↦ (let two = count_two kept high in (omega (arith, few, both, two, count_some more), omega (arith, few, both, two, count_some more)))
@@ -45,4 +46,12 @@ rows_bounded encoding values last (row ∷ rows) =
     let value = values row.1 in
     let rest = entries_bytes (row_behind encoding values) (row_key encoding) (encoding row.0) rows in
     let all : length (entries_bytes (row_behind encoding values) (row_key encoding) last (row ∷ rows)) ≡ length ((key ++ value) ++ rest) = refl in
-    omega (arith, all, sum_by-cons (λ row. length (encoding row.0)) row rows, (key_bounded last (encoding row.0)).1, rows_bounded encoding values (encoding row.0) rows, length-append key value, length-append (key ++ value) rest)
+    omega (
+      arith,
+      all,
+      sum_by-cons (λ row. length (encoding row.0)) row rows,
+      (key_bounded last (encoding row.0)).1,
+      rows_bounded encoding values (encoding row.0) rows,
+      length-append key value,
+      length-append (key ++ value) rest,
+    )

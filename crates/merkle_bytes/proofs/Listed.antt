@@ -96,7 +96,9 @@ module _ {X S : Type 0} (P : X → Type 0) (bytes : S → X → List ℕ) (next 
       read = kept.read ∙ ap (λ t. (count_bytes count ++ entries_bytes bytes next start entries) ++ t) now
           ∙ sym (append_assoc (count_bytes count ++ entries_bytes bytes next start entries) (bytes state x) behind)
           ∙ ap (λ t. t ++ behind) (append_assoc (count_bytes count) (entries_bytes bytes next start entries) (bytes state x)
-          ∙ ap (λ t. count_bytes count ++ t) (ap (λ s. entries_bytes bytes next start entries ++ bytes s x) kept.behind ∙ sym (one_more bytes next start entries x) ∙ ap (entries_bytes bytes next start) (sym more)));
+          ∙ ap (λ t. count_bytes count ++ t)
+          (ap (λ s. entries_bytes bytes next start entries ++ bytes s x) kept.behind ∙ sym (one_more bytes next start entries x)
+          ∙ ap (entries_bytes bytes next start) (sym more)));
       behind = went ∙ ap (λ s. next s x) kept.behind ∙ sym (state_more bytes next start entries x) ∙ ap (state_behind bytes next start) (sym more);
       counted = omega (arith, ap length more, length-append entries (x ∷ []), kept.counted);
       values = subst (AllByRecursion P) (sym more) (each-append P entries (x ∷ []) kept.values (p, tt));

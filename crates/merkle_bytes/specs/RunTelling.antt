@@ -40,19 +40,23 @@ front_long kept more (inr high) = grind (arith, nat_tests)
 pub front_told : (kept more kept' more' : ℕ) (r s : List ℕ) → front_bytes kept more ++ r ≡ front_bytes kept' more' ++ s → (kept ≡ kept') × (more ≡ more') × (r ≡ s)
 front_told kept more kept' more' r s e = elim (fit_or_not kept more) [
   | inl few ↦ elim (fit_or_not kept' more') [
-    | inl few' ↦ (let flat : (16 * kept + more) ∷ r ≡ (16 * kept' + more') ∷ s = ap (λ t. t ++ r) (sym (front_few kept more few.0 few.1)) ∙ e ∙ ap (λ t. t ++ s) (front_few kept' more' few'.0 few'.1) in
+    | inl few' ↦ (let flat : (16 * kept + more) ∷ r ≡ (16 * kept' + more') ∷ s = ap (λ t. t ++ r) (sym (front_few kept more few.0 few.1)) ∙ e
+        ∙ ap (λ t. t ++ s) (front_few kept' more' few'.0 few'.1) in
         let same : 16 * kept + more ≡ 16 * kept' + more' = cc in
         (omega (arith, same, few.1, few'.1), omega (arith, same, few.1, few'.1), cc))
-    | inr long' ↦ (let flat : (16 * kept + more) ∷ r ≡ 240 ∷ ((count_bytes kept' ++ count_bytes more') ++ s) = ap (λ t. t ++ r) (sym (front_few kept more few.0 few.1)) ∙ e ∙ ap (λ t. t ++ s) (front_long kept' more' long') in
+    | inr long' ↦ (let flat : (16 * kept + more) ∷ r ≡ 240 ∷ ((count_bytes kept' ++ count_bytes more') ++ s) =
+        ap (λ t. t ++ r) (sym (front_few kept more few.0 few.1)) ∙ e ∙ ap (λ t. t ++ s) (front_long kept' more' long') in
         let same : 16 * kept + more ≡ 240 = cc in absurd (omega (arith, same, few.0, few.1)))
   ]
   | inr long ↦ elim (fit_or_not kept' more') [
-    | inl few' ↦ (let flat : 240 ∷ ((count_bytes kept ++ count_bytes more) ++ r) ≡ (16 * kept' + more') ∷ s = ap (λ t. t ++ r) (sym (front_long kept more long)) ∙ e ∙ ap (λ t. t ++ s) (front_few kept' more' few'.0 few'.1) in
+    | inl few' ↦ (let flat : 240 ∷ ((count_bytes kept ++ count_bytes more) ++ r) ≡ (16 * kept' + more') ∷ s =
+        ap (λ t. t ++ r) (sym (front_long kept more long)) ∙ e ∙ ap (λ t. t ++ s) (front_few kept' more' few'.0 few'.1) in
         let same : 240 ≡ 16 * kept' + more' = cc in absurd (omega (arith, same, few'.0, few'.1)))
     | inr long' ↦ (let flat : 240 ∷ ((count_bytes kept ++ count_bytes more) ++ r) ≡ 240 ∷ ((count_bytes kept' ++ count_bytes more') ++ s)
         = ap (λ t. t ++ r) (sym (front_long kept more long)) ∙ e ∙ ap (λ t. t ++ s) (front_long kept' more' long') in
         let behind : (count_bytes kept ++ count_bytes more) ++ r ≡ (count_bytes kept' ++ count_bytes more') ++ s = cc in
-        let firsts = count_told kept kept' (count_bytes more ++ r) (count_bytes more' ++ s) (sym (append_assoc (count_bytes kept) (count_bytes more) r) ∙ behind ∙ append_assoc (count_bytes kept') (count_bytes more') s) in
+        let firsts = count_told kept kept' (count_bytes more ++ r) (count_bytes more' ++ s)
+        (sym (append_assoc (count_bytes kept) (count_bytes more) r) ∙ behind ∙ append_assoc (count_bytes kept') (count_bytes more') s) in
         let seconds = count_told more more' r s firsts.1 in
         (firsts.0, seconds.0, seconds.1))
   ]
@@ -78,8 +82,16 @@ behind_told last a b r s e =
 pub behind_some : (last a : List ℕ) → 1 ≤ length (key_behind last a)
 unfolding key_behind
 behind_some last a = elim (fit_or_not (kept_of last a) (length a - kept_of last a)) [
-  | inl few ↦ omega (arith, ap length (front_few (kept_of last a) (length a - kept_of last a) few.0 few.1), length-append (front_bytes (kept_of last a) (length a - kept_of last a)) (drop (kept_of last a) a))
-  | inr long ↦ omega (arith, ap length (front_long (kept_of last a) (length a - kept_of last a) long), length-append (front_bytes (kept_of last a) (length a - kept_of last a)) (drop (kept_of last a) a))
+  | inl few ↦ omega (
+    arith,
+    ap length (front_few (kept_of last a) (length a - kept_of last a) few.0 few.1),
+    length-append (front_bytes (kept_of last a) (length a - kept_of last a)) (drop (kept_of last a) a),
+  )
+  | inr long ↦ omega (
+    arith,
+    ap length (front_long (kept_of last a) (length a - kept_of last a) long),
+    length-append (front_bytes (kept_of last a) (length a - kept_of last a)) (drop (kept_of last a) a),
+  )
 ]
 
 module _ {K : Type 0} (encoding : K → List ℕ) (eq : K → K → Bool)

@@ -86,7 +86,9 @@ module _ (bytes : List ℕ) where
   cut_all ranges ranges' window start at cut all none same =
       let end : start ≡ at = omega (arith, none, cut.low) in (
         same ∙ sym (append-nil ranges)
-            ∙ ap (λ rs. ranges ++ rs) (sym (ap (λ s. ranges_from window s at (drop at bytes)) end ∙ ap (ranges_from window at at) (drop_all at bytes (omega (arith, all))) ∙ ranges_none window at)) ∙ cut.rest,
+            ∙ ap (λ rs. ranges ++ rs) (sym
+            (ap (λ s. ranges_from window s at (drop at bytes)) end ∙ ap (ranges_from window at at) (drop_all at bytes (omega (arith, all)))
+            ∙ ranges_none window at)) ∙ cut.rest,
         subst (AllByRecursion (λ range. (range.0 ≤ range.1) × (range.1 ≤ length bytes))) (sym same) cut.inside,
       )
 

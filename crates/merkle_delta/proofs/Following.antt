@@ -5,7 +5,7 @@ use Rattle.std.proofs.lemmas.List.{append_assoc, append-nil, length-append, flat
 use Rattle.key_order.proofs.ListParts.{join_tells}
 use Rattle.merkle_digest.specs.SipHash.{siphash128, output}
 use Rattle.merkle_delta.specs.Chunks.{digest_of}
-use Rattle.merkle_delta.specs.Deltas.{IsDeltaOver, Step, step_bytes, given_by, left_by, left_behind, bytes_from_steps, IsStepOver, AreStepsOver}
+use Rattle.merkle_delta.specs.Deltas.{IsDeltaOver, Step, step_bytes, given_by, chunks_after, left_behind, bytes_from_steps, IsStepOver, AreStepsOver}
 use Rattle.merkle_delta.specs.Steps.{IsStepTaken, BeginNoStep, AreGiven, AreNoSteps}
 use Rattle.merkle_delta.proofs.Stepping.{over-more, patched-more, left-more, step-some, step_told, steps_told}
 
@@ -47,7 +47,7 @@ module _ (own : List (List ℕ)) (whole : List ℕ) where
     read = so.read ∙ ap (λ t. flat_map step_bytes so.steps ++ t) now ∙ sym (append_assoc (flat_map step_bytes so.steps) (step_bytes step) left')
         ∙ ap (λ t. t ++ left') (flat_map_more step_bytes [] so.steps step);
     gives = put ∙ ap₂ (λ t c. t ++ given_by c step) so.gives so.behind ∙ sym (patched-more own so.steps step);
-    behind = goes ∙ ap (λ c. left_by c step) so.behind ∙ sym (left-more own so.steps step);
+    behind = goes ∙ ap (λ c. chunks_after c step) so.behind ∙ sym (left-more own so.steps step);
     rest = λ all over e. let b = so.rest all over e in after b.0 b.1 b.2 b.3;
   }
     where
@@ -57,7 +57,7 @@ module _ (own : List (List ℕ)) (whole : List ℕ) where
       after (s ∷ ss) over e gives =
           let both = step_told chunks step s left' (flat_map step_bytes ss) is over.0 (sym now ∙ e) in
           let same = sym both.0 in
-          let place : left_by chunks s ≡ behind = ap (left_by chunks) same ∙ sym goes in (
+          let place : chunks_after chunks s ≡ behind = ap (chunks_after chunks) same ∙ sym goes in (
             ss,
             subst (λ c. AreStepsOver c ss) place over.1,
             both.1,

@@ -11,7 +11,7 @@ use Rattle.merkle_bytes.specs.declared.error.ReadError.TheVariants as read
 use Rattle.merkle_delta.specs.Faults.{unread_delta}
 use Rattle.merkle_delta.specs.declared.patch.PatchError.TheVariants.{Unlike}
 use Rattle.merkle_delta.specs.Steps.{BeginNoStep, IsStepTaken}
-use Rattle.merkle_delta.specs.Deltas.{Step, bytes_step, run_step, step_bytes, left_by, given_by, IsStepOver, left_behind, bytes_from_steps, AreStepsOver}
+use Rattle.merkle_delta.specs.Deltas.{Step, bytes_step, run_step, step_bytes, chunks_after, given_by, IsStepOver, left_behind, bytes_from_steps, AreStepsOver}
 
 -- bytes are no delta only where they are malformed
 pub malformed_of : (error : ReadError) → unread_delta error ≡ Unlike → IsMalformed error
@@ -30,17 +30,17 @@ concat-append (x ∷ xs) ys = ap (λ t. x ++ t) (concat-append xs ys) ∙ sym (a
 -- one step more after others
 pub over-more : (chunks : List (List ℕ)) (steps : List Step) (step : Step) → AreStepsOver chunks steps → IsStepOver (left_behind chunks steps) step → AreStepsOver chunks (steps ++ step ∷ [])
 over-more chunks [] step over is = (is, tt)
-over-more chunks (s ∷ ss) step over is = (over.0, over-more (left_by chunks s) ss step over.1 is)
+over-more chunks (s ∷ ss) step over is = (over.0, over-more (chunks_after chunks s) ss step over.1 is)
 
 pub patched-more : (chunks : List (List ℕ)) (steps : List Step) (step : Step) → bytes_from_steps chunks (steps ++ step ∷ []) ≡ bytes_from_steps chunks steps ++ given_by (left_behind chunks steps) step
 patched-more chunks [] step = append-nil (given_by chunks step)
 patched-more chunks (s ∷ ss) step =
-    ap (λ t. given_by chunks s ++ t) (patched-more (left_by chunks s) ss step)
-    ∙ sym (append_assoc (given_by chunks s) (bytes_from_steps (left_by chunks s) ss) (given_by (left_behind (left_by chunks s) ss) step))
+    ap (λ t. given_by chunks s ++ t) (patched-more (chunks_after chunks s) ss step)
+    ∙ sym (append_assoc (given_by chunks s) (bytes_from_steps (chunks_after chunks s) ss) (given_by (left_behind (chunks_after chunks s) ss) step))
 
-pub left-more : (chunks : List (List ℕ)) (steps : List Step) (step : Step) → left_behind chunks (steps ++ step ∷ []) ≡ left_by (left_behind chunks steps) step
+pub left-more : (chunks : List (List ℕ)) (steps : List Step) (step : Step) → left_behind chunks (steps ++ step ∷ []) ≡ chunks_after (left_behind chunks steps) step
 left-more chunks [] step = refl
-left-more chunks (s ∷ ss) step = left-more (left_by chunks s) ss step
+left-more chunks (s ∷ ss) step = left-more (chunks_after chunks s) ss step
 
 -- a step has a byte
 pub step-some : (step : Step) → 1 ≤ length (step_bytes step)
@@ -77,7 +77,7 @@ steps_told chunks [] (t ∷ ts) over are e = absurd (omega (arith, ap length e, 
 steps_told chunks (s ∷ ss) [] over are e = absurd (omega (arith, ap length e, step-some s, length-append (step_bytes s) (flat_map step_bytes ss)))
 steps_told chunks (s ∷ ss) (t ∷ ts) over are e =
     let first = step_told chunks s t (flat_map step_bytes ss) (flat_map step_bytes ts) over.0 are.0 e in
-    ap₂ (λ x xs. x ∷ xs) first.0 (steps_told (left_by chunks s) ss ts over.1 (subst (λ x. AreStepsOver (left_by chunks x) ts) (sym first.0) are.1) first.1)
+    ap₂ (λ x xs. x ∷ xs) first.0 (steps_told (chunks_after chunks s) ss ts over.1 (subst (λ x. AreStepsOver (chunks_after chunks x) ts) (sym first.0) are.1) first.1)
 
 -- of chunks that are passed by or taken the others are left
 run_long : (chunks : List (List ℕ)) (passed taken : ℕ) → length (concat (take taken (drop passed chunks))) + length (concat (drop (passed + taken) chunks)) ≤ length (concat chunks)

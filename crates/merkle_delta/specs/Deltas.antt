@@ -25,9 +25,9 @@ step_bytes (inl run) = run_step run.0 run.1
 step_bytes (inr bytes) = bytes_step bytes
 
 -- the chunks that are left after a step
-abbrev pub left_by : List (List ℕ) → Step → List (List ℕ)
-left_by chunks (inl run) = drop (run.0 + run.1) chunks
-left_by chunks (inr bytes) = chunks
+abbrev pub chunks_after : List (List ℕ) → Step → List (List ℕ)
+chunks_after chunks (inl run) = drop (run.0 + run.1) chunks
+chunks_after chunks (inr bytes) = chunks
 
 -- what a step gives
 abbrev pub given_by : List (List ℕ) → Step → List ℕ
@@ -42,15 +42,15 @@ IsStepOver chunks (inr bytes) = ⊤
 -- the same of steps one after the other
 abbrev pub left_behind : List (List ℕ) → List Step → List (List ℕ)
 left_behind chunks [] = chunks
-left_behind chunks (step ∷ steps) = left_behind (left_by chunks step) steps
+left_behind chunks (step ∷ steps) = left_behind (chunks_after chunks step) steps
 
 abbrev pub bytes_from_steps : List (List ℕ) → List Step → List ℕ
 bytes_from_steps chunks [] = []
-bytes_from_steps chunks (step ∷ steps) = given_by chunks step ++ bytes_from_steps (left_by chunks step) steps
+bytes_from_steps chunks (step ∷ steps) = given_by chunks step ++ bytes_from_steps (chunks_after chunks step) steps
 
 abbrev pub AreStepsOver : List (List ℕ) → List Step → Type 0
 AreStepsOver chunks [] = ⊤
-AreStepsOver chunks (step ∷ steps) = IsStepOver chunks step × AreStepsOver (left_by chunks step) steps
+AreStepsOver chunks (step ∷ steps) = IsStepOver chunks step × AreStepsOver (chunks_after chunks step) steps
 
 -- a delta: the digest of the bytes, and steps
 abbrev pub delta_bytes : List ℕ → List Step → List ℕ

@@ -2,7 +2,7 @@
 use Rattle.std.specs.Prelude.{◌≡◌, ℕ, List, Option, Some, None, ⊤, map}
 use Rattle.std.specs.Global.{Vec}
 use Rattle.merkle_delta.specs.Chunks.{checksum, digest_of}
-use Rattle.merkle_delta.specs.Messages.{IsAsked, IsPlain, IsReplyOver, IsToldFor, asking_bytes}
+use Rattle.merkle_delta.specs.Messages.{AsksQuestion, IsPlain, IsReplyOver, IsToldFor, asking_bytes}
 use Rattle.merkle_delta.specs.declared.hearing.Heard.{Heard}
 use Rattle.merkle_delta.specs.declared.hearing.Heard.TheVariants.{Reply, Again}
 
@@ -31,5 +31,5 @@ IsSafe (Some told) reply whole = (other : List ℕ) → IsReplyOver told.own rep
 -- the question that a peer reads is the one that was asked, and the reply that is heard is the one that it told, while no digest collides
 abbrev pub ToldIsHeard : Type 0
 ToldIsHeard = (told : Option Told) (question message other plain reply : List ℕ) (checksums : Option (Vec ℕ)) → IsPlain question → IsSentFor question told message
-    → IsAsked checksums other message → IsToldFor checksums plain reply → IsSafe told reply plain
+    → AsksQuestion checksums other message → IsToldFor checksums plain reply → IsSafe told reply plain
     → (other ≡ question) × ((heard : Vec ℕ) → IsHeard told reply (Reply heard) → heard.items ≡ plain)

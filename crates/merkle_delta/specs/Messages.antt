@@ -23,9 +23,9 @@ abbrev pub telling_bytes : List ℕ → List ℕ
 telling_bytes delta = 1 ∷ 134 ∷ delta
 
 -- the message asks a question: alone, or after checksums
-abbrev pub IsAsked : Option (Vec ℕ) → List ℕ → List ℕ → Type 0
-IsAsked None question message = (message ≡ question) × IsPlain message
-IsAsked (Some checksums) question message = message ≡ asking_bytes checksums.items question
+abbrev pub AsksQuestion : Option (Vec ℕ) → List ℕ → List ℕ → Type 0
+AsksQuestion None question message = (message ≡ question) × IsPlain message
+AsksQuestion (Some checksums) question message = message ≡ asking_bytes checksums.items question
 
 -- the message begins as one with checksums, and no checksums are there
 abbrev pub AsksNone : List ℕ → Type 0

@@ -4,7 +4,7 @@ use Rattle.std.specs.Global.{Vec}
 use Rattle.std.specs.List.{concat, flat_map}
 use Rattle.merkle_bytes.specs.declared.reader.Reader.{Reader}
 use Rattle.merkle_delta.specs.Chunks.{checksum}
-use Rattle.merkle_delta.specs.Deltas.{Step, step_bytes, left_by, given_by, bytes_from_steps, IsStepOver, AreStepsOver, AreToldApart}
+use Rattle.merkle_delta.specs.Deltas.{Step, step_bytes, chunks_after, given_by, bytes_from_steps, IsStepOver, AreStepsOver, AreToldApart}
 
 module _ (checksums : List ℕ) (chunks : List (List ℕ)) where
   -- the checksum at a place is that of a chunk
@@ -25,7 +25,7 @@ module _ (chunks : List (List ℕ)) where
   -- a step was read, and what it gives was added: these chunks are after it, and these bytes are left
   abbrev pub IsStepTaken : List ℕ → List ℕ → List (List ℕ) → List ℕ → List ℕ → Type 0
   IsStepTaken left given behind left' given' = (step : Step) × IsStepOver chunks step × (left ≡ step_bytes step ++ left')
-      × (given' ≡ given ++ given_by chunks step) × (behind ≡ left_by chunks step)
+      × (given' ≡ given ++ given_by chunks step) × (behind ≡ chunks_after chunks step)
 
   -- the bytes begin with no step over the chunks
   abbrev pub BeginNoStep : List ℕ → Type 0

@@ -1,7 +1,7 @@
 //! The answering side: it reads the checksums in a message, and tells its reply as the delta for them.
 ghost use Rattle.std.specs.Prelude.{◌≡◌, IfOk, IfErr};
 ghost use Rattle.merkle_bytes.specs.Refusals.{IsMalformed};
-ghost use Rattle.merkle_delta.specs.Messages.{AsksNone, IsAsked, IsToldFor};
+ghost use Rattle.merkle_delta.specs.Messages.{AsksNone, AsksQuestion, IsToldFor};
 
 use crate::delta::add_delta;
 use crate::message::{ASKS, TELLS, behind};
@@ -24,7 +24,7 @@ pub fn read_message<'a>(
     alloc: Global,
     message: &'a [u8],
 ) -> Result<(Option<Vec<u32>>, &'a [u8]), ReadError>
-    ensures asked { IfOk result (λ asked. IsAsked asked.0 asked.1.now message.now) }
+    ensures asked { IfOk result (λ asked. AsksQuestion asked.0 asked.1.now message.now) }
     ensures malformed { IfErr result (λ error. IsMalformed error → AsksNone message.now) }
 {
     let Some(asked) = behind(ASKS, message) else {

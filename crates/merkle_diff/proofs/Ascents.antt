@@ -19,7 +19,8 @@ module _ {K A : Type 0} (cmp : K → K → Ordering) (o : IsTotalOrder cmp) (v :
   Rises = IsSortedByKey (λ a. (v a).first) cmp
 
   -- what stands at a place of the tail stands one place further in the whole
-  further : (x : A) (xs : List A) (k : ℕ) (d : A) → is_lt (cmp (v (get_or (x ∷ xs) (suc (k + 1)) d)).first (v (get_or xs k d)).first) ≡ false → is_lt (cmp (v (get_or (x ∷ xs) (suc k + 1) d)).first (v (get_or xs k d)).first) ≡ false
+  further : (x : A) (xs : List A) (k : ℕ) (d : A) → is_lt (cmp (v (get_or (x ∷ xs) (suc (k + 1)) d)).first (v (get_or xs k d)).first) ≡ false
+      → is_lt (cmp (v (get_or (x ∷ xs) (suc k + 1) d)).first (v (get_or xs k d)).first) ≡ false
   further x xs k d = let e : suc (k + 1) ≡ suc k + 1 = omega arith in subst (λ n. is_lt (cmp (v (get_or (x ∷ xs) n d)).first (v (get_or xs k d)).first) ≡ false) e
 
   rises-tail : (x : A) (xs : List A) → Rises (x ∷ xs) → Rises xs
@@ -30,8 +31,11 @@ module _ {K A : Type 0} (cmp : K → K → Ordering) (o : IsTotalOrder cmp) (v :
   first-least : (x : A) (xs : List A) → Rises (x ∷ xs) → AllByRecursion (λ t. Upto cmp (v x).first t.first) (map v xs)
   first-least x [] h = tt
   first-least x (y ∷ ys) h =
-      let u : Upto cmp (v x).first (v y).first = turned' cmp o (v y).first (v x).first ∙ h 0 x (omega arith) (omega arith) in
-      (u, each-with (λ t. Upto cmp (v y).first t.first) (λ t. Upto cmp (v x).first t.first) (map v ys) (λ t w. up_up cmp o (v x).first (v y).first t.first u w) (first-least y ys (rises-tail x (y ∷ ys) h)))
+      let u : Upto cmp (v x).first (v y).first = turned' cmp o (v y).first (v x).first ∙ h 0 x (omega arith) (omega arith) in (
+        u,
+        each-with (λ t. Upto cmp (v y).first t.first) (λ t. Upto cmp (v x).first t.first) (map v ys) (λ t w. up_up cmp o (v x).first (v y).first t.first u w)
+            (first-least y ys (rises-tail x (y ∷ ys) h)),
+      )
 
   pub ascends-by_start : (xs : List A) → Rises xs → IsAscendingByStart cmp (map v xs)
   ascends-by_start [] h = tt

@@ -131,7 +131,8 @@ module _ {K : Type 0} (cmp : K → K → Ordering) (o : IsTotalOrder cmp) where
     bounds-covered (y ∷ ys) d = (inl (bound-in e y d.0), each-with (λ j. IsCovered cmp j ys) (λ j. IsCovered cmp j (y ∷ ys)) (map (bound e) ys) (λ j i. inr i) (bounds-covered ys d.1))
 
     -- a key that is a bound is among the bounds of the merge
-    pub those-named : (ss : List (Span K)) (ks : List K) → AreThose cmp (map (bound e) ss) (Free cmp e ss) ks → (k : K) → AnyByRecursion (λ j. Same cmp k j × Free cmp e ss j) (map (bound e) ss) → AnyByRecursion (Same cmp k) ks
+    pub those-named : (ss : List (Span K)) (ks : List K) → AreThose cmp (map (bound e) ss) (Free cmp e ss) ks → (k : K)
+        → AnyByRecursion (λ j. Same cmp k j × Free cmp e ss j) (map (bound e) ss) → AnyByRecursion (Same cmp k) ks
     those-named ss ks m k h = any-get (λ j. Free cmp e ss j → AnyByRecursion (Same cmp j) ks) (λ j. Same cmp k j × Free cmp e ss j) (AnyByRecursion (Same cmp k) ks) (map (bound e) ss)
         (λ j c q. any-map (Same cmp j) (Same cmp k) ks (λ x r. same_trans cmp o k j x q.0 r) (c q.1)) m.complete h
 

@@ -35,7 +35,8 @@ module _ {K : Type 0} (cmp : K → K → Ordering) (o : IsTotalOrder cmp) where
     apart-free [] d a = tt
     apart-free (m ∷ ms) d a = (
       (own-free cmp o e m, later),
-      each-both (λ t. Below cmp m.last (bound e t)) (λ t. Free cmp e ms (bound e t)) (λ t. Free cmp e (m ∷ ms) (bound e t)) ms (λ t b f. ((λ c. not_both cmp o (bound e t) m.last (across-in cmp o e (bound e t) m c).1 b), f)) above (apart-free ms d.1 a.1),
+      each-both (λ t. Below cmp m.last (bound e t)) (λ t. Free cmp e ms (bound e t)) (λ t. Free cmp e (m ∷ ms) (bound e t)) ms
+          (λ t b f. ((λ c. not_both cmp o (bound e t) m.last (across-in cmp o e (bound e t) m c).1 b), f)) above (apart-free ms d.1 a.1),
     )
       where
         later : Free cmp e ms (bound e m)
@@ -45,11 +46,13 @@ module _ {K : Type 0} (cmp : K → K → Ordering) (o : IsTotalOrder cmp) where
         above : AllByRecursion (λ t. Below cmp m.last (bound e t)) ms
         above = each-both (λ t. Below cmp m.last t.first) (IsOrdered cmp) (λ t. Below cmp m.last (bound e t)) ms (λ t b i. low_up cmp o m.last t.first (bound e t) b (bound-in cmp o e t i).0) a.0 d.1
 
-    merge-free : (ss ms : List (Span K)) → AllByRecursion (IsOrdered cmp) ss → IsMerge cmp ss ms → AreThose cmp (map (bound e) ss) (Free cmp e ss) (map (bound e) ms) → (k : K) → Free cmp e ss k → Free cmp e ms k
+    merge-free : (ss ms : List (Span K)) → AllByRecursion (IsOrdered cmp) ss → IsMerge cmp ss ms
+        → AreThose cmp (map (bound e) ss) (Free cmp e ss) (map (bound e) ms) → (k : K) → Free cmp e ss k → Free cmp e ms k
     merge-free ss ms d m those k f = each-not (Across cmp e k) ms (λ h.
         let i = merge-from cmp o k ss ms d m (any-map (Across cmp e k) (IsIn cmp k) ms (λ s a. across-in cmp o e k s a) h) in
         let q = any-unmapped (bound e) (Same cmp k) ms (those-named cmp o e ss (map (bound e) ms) those k (to-bound cmp o e ss ss k f f i)) in
-        none-of (Across cmp e k) ms (any-get (λ s. Free cmp e ms (bound e s)) (λ s. Same cmp k (bound e s)) (Free cmp e ms k) ms (λ s g r. free-same cmp o e ms (bound e s) k (same_back cmp o k (bound e s) r) g)
+        none-of (Across cmp e k) ms (any-get (λ s. Free cmp e ms (bound e s)) (λ s. Same cmp k (bound e s)) (Free cmp e ms k) ms
+        (λ s g r. free-same cmp o e ms (bound e s) k (same_back cmp o k (bound e s) r) g)
         (apart-free ms (merge-is_ordered cmp o ss ms d m) (merge-is_apart cmp o ss ms d m)) q) h)
 
   -- ---- what is left by a cut
@@ -60,7 +63,8 @@ module _ {K : Type 0} (cmp : K → K → Ordering) (o : IsTotalOrder cmp) where
     pub up : (g s : Span K) → Q s → N g → AnyByRecursion Q (cut_one cmp g s)
 
   -- what is left by one list is left by the other
-  left-again : (Q N : Span K → Type 0) → IsLeft Q N → (bad xs ys : List (Span K)) → (AllByRecursion N xs → AllByRecursion N ys) → AnyByRecursion Q (pieces_left cmp bad xs) → AnyByRecursion Q (pieces_left cmp bad ys)
+  left-again : (Q N : Span K → Type 0) → IsLeft Q N → (bad xs ys : List (Span K)) → (AllByRecursion N xs → AllByRecursion N ys)
+      → AnyByRecursion Q (pieces_left cmp bad xs) → AnyByRecursion Q (pieces_left cmp bad ys)
   left-again Q N law bad xs ys f h = let r = left-down cmp o Q N law.down bad xs h in left-up cmp o Q N law.up bad ys r.0 (f r.1)
 
   -- a piece that runs across an edge is of a range that does, and the edge is not across what is cut out
@@ -118,10 +122,12 @@ module _ {K : Type 0} (cmp : K → K → Ordering) (o : IsTotalOrder cmp) where
         go (inr u) (inl v) = again (IsPoint k) (λ g. ¬ (IsIn cmp k g)) (point-left k) (λ s p. (p.0, p.1)) h (m.1.0, m.1.1, u, v)
 
     free-again : (e : Border) (k : K) → (Free cmp e ys k → Free cmp e xs k) → Free cmp e (pieces_left cmp bad xs) k → Free cmp e (pieces_left cmp bad ys) k
-    free-again e k f n = each-not (Across cmp e k) (pieces_left cmp bad ys) (λ h. none-of (Across cmp e k) (pieces_left cmp bad xs) n (left-again (Across cmp e k) (λ g. ¬ (Across cmp e k g)) (across-left e k) bad ys xs f h))
+    free-again e k f n = each-not (Across cmp e k) (pieces_left cmp bad ys)
+        (λ h. none-of (Across cmp e k) (pieces_left cmp bad xs) n (left-again (Across cmp e k) (λ g. ¬ (Across cmp e k g)) (across-left e k) bad ys xs f h))
 
   -- the cut by the merge of a list is the cut by the list
-  pub cut-by_merge : (bad good merged result : List (Span K)) → AllByRecursion (IsOrdered cmp) bad → AllByRecursion (IsOrdered cmp) good → IsMerge cmp good merged → IsExactCut cmp bad merged result → IsExactCut cmp bad good result
+  pub cut-by_merge : (bad good merged result : List (Span K)) → AllByRecursion (IsOrdered cmp) bad → AllByRecursion (IsOrdered cmp) good
+      → IsMerge cmp good merged → IsExactCut cmp bad merged result → IsExactCut cmp bad good result
   cut-by_merge bad good merged result db dg m c = record { starts = those Start (map (λ s. s.first) result) c.starts; ends = those End (map (λ s. s.last) result) c.ends }
     where
       free-from : (e : Border) (k : K) → Free cmp e merged k → Free cmp e good k
@@ -137,7 +143,8 @@ module _ {K : Type 0} (cmp : K → K → Ordering) (o : IsTotalOrder cmp) where
       keys-to : (k : K) → AllByRecursion (λ g. ¬ (IsIn cmp k g)) good → AllByRecursion (λ g. ¬ (IsIn cmp k g)) merged
       keys-to k n = each-not (IsIn cmp k) merged (λ h. none-of (IsIn cmp k) good n (merge-from cmp o k good merged dg m h))
 
-      those : (e : Border) (ks : List K) → AreThose cmp (map (bound e) (pieces_left cmp bad merged)) (Free cmp e (pieces_left cmp bad merged)) ks → AreThose cmp (map (bound e) (pieces_left cmp bad good)) (Free cmp e (pieces_left cmp bad good)) ks
+      those : (e : Border) (ks : List K) → AreThose cmp (map (bound e) (pieces_left cmp bad merged)) (Free cmp e (pieces_left cmp bad merged)) ks
+          → AreThose cmp (map (bound e) (pieces_left cmp bad good)) (Free cmp e (pieces_left cmp bad good)) ks
       those e ks =
           those-again cmp o e (pieces_left cmp bad merged) (pieces_left cmp bad good) ks (left-ordered cmp o bad merged db) (left-ordered cmp o bad good db)
           (λ k. covered-again bad merged good k (λ e. free-from e k) (keys-from k)) (λ k. covered-again bad good merged k (λ e. free-to e k) (keys-to k))

@@ -45,10 +45,12 @@ module _ {K : Type 0} (cmp : K → K → Ordering) (o : IsTotalOrder cmp) where
       go false e (inr i) = absurd i
 
   pub some-cut : (Q : Span K → Type 0) (g s : Span K) → Q s
-      → (Meets cmp g s → (Below cmp s.first g.first × Q (record { first = s.first; last = g.first })) ⊎ (Below cmp g.last s.last × Q (record { first = g.last; last = s.last }))) → AnyByRecursion Q (cut_one cmp g s)
+      → (Meets cmp g s → (Below cmp s.first g.first × Q (record { first = s.first; last = g.first }))
+      ⊎ (Below cmp g.last s.last × Q (record { first = g.last; last = s.last }))) → AnyByRecursion Q (cut_one cmp g s)
   some-cut Q g s q f = go (meets cmp g s) refl
     where
-      cut : (Below cmp s.first g.first × Q (record { first = s.first; last = g.first })) ⊎ (Below cmp g.last s.last × Q (record { first = g.last; last = s.last })) → AnyByRecursion Q (piece cmp s.first g.first ++ piece cmp g.last s.last)
+      cut : (Below cmp s.first g.first × Q (record { first = s.first; last = g.first }))
+          ⊎ (Below cmp g.last s.last × Q (record { first = g.last; last = s.last })) → AnyByRecursion Q (piece cmp s.first g.first ++ piece cmp g.last s.last)
       cut (inl h) = any-left Q (piece cmp s.first g.first) (piece cmp g.last s.last) (some-piece Q s.first g.first h.0 h.1)
       cut (inr h) = any-right Q (piece cmp s.first g.first) (piece cmp g.last s.last) (some-piece Q g.last s.last h.0 h.1)
 
@@ -80,7 +82,8 @@ module _ {K : Type 0} (cmp : K → K → Ordering) (o : IsTotalOrder cmp) where
     flat-down g [] h = absurd h
     flat-down g (s ∷ ss) h = go (flat-down g ss) (any-split Q (cut_one cmp g s) (flat_map (cut_one cmp g) ss) h)
       where
-        go : (AnyByRecursion Q (flat_map (cut_one cmp g) ss) → AnyByRecursion Q ss × N g) → AnyByRecursion Q (cut_one cmp g s) ⊎ AnyByRecursion Q (flat_map (cut_one cmp g) ss) → AnyByRecursion Q (s ∷ ss) × N g
+        go : (AnyByRecursion Q (flat_map (cut_one cmp g) ss) → AnyByRecursion Q ss × N g) → AnyByRecursion Q (cut_one cmp g s)
+            ⊎ AnyByRecursion Q (flat_map (cut_one cmp g) ss) → AnyByRecursion Q (s ∷ ss) × N g
         go f (inl i) = let r = one g s i in (inl r.0, r.1)
         go f (inr i) = let r = f i in (inr r.0, r.1)
 
@@ -103,7 +106,8 @@ module _ {K : Type 0} (cmp : K → K → Ordering) (o : IsTotalOrder cmp) where
     left-up bad (g ∷ good) h n = left-up (flat_map (cut_one cmp g) bad) good (flat-up g bad h n.0) n.1
 
   -- what holds of the pieces of each range holds of all pieces
-  pub each-flat : (P : Span K → Type 0) (g : Span K) (bad : List (Span K)) → ((s : Span K) → P s → AllByRecursion P (cut_one cmp g s)) → AllByRecursion P bad → AllByRecursion P (flat_map (cut_one cmp g) bad)
+  pub each-flat : (P : Span K → Type 0) (g : Span K) (bad : List (Span K)) → ((s : Span K) → P s → AllByRecursion P (cut_one cmp g s)) → AllByRecursion P bad
+      → AllByRecursion P (flat_map (cut_one cmp g) bad)
   each-flat P g [] f a = tt
   each-flat P g (s ∷ bad) f a = each-append P (cut_one cmp g s) (flat_map (cut_one cmp g) bad) (f s a.0) (each-flat P g bad f a.1)
 
@@ -114,7 +118,8 @@ module _ {K : Type 0} (cmp : K → K → Ordering) (o : IsTotalOrder cmp) where
       go true e = (f e, tt)
       go false e = tt
 
-  pub each-cut : (P : Span K → Type 0) (g s : Span K) → P s → (Meets cmp g s → Below cmp s.first g.first → P (record { first = s.first; last = g.first })) → (Meets cmp g s → Below cmp g.last s.last → P (record { first = g.last; last = s.last })) → AllByRecursion P (cut_one cmp g s)
+  pub each-cut : (P : Span K → Type 0) (g s : Span K) → P s → (Meets cmp g s → Below cmp s.first g.first → P (record { first = s.first; last = g.first }))
+      → (Meets cmp g s → Below cmp g.last s.last → P (record { first = g.last; last = s.last })) → AllByRecursion P (cut_one cmp g s)
   each-cut P g s p f h = go (meets cmp g s) refl
     where
       go : (t : Bool) → meets cmp g s ≡ t → AllByRecursion P (if t then (piece cmp s.first g.first ++ piece cmp g.last s.last) else (s ∷ []))
@@ -123,7 +128,8 @@ module _ {K : Type 0} (cmp : K → K → Ordering) (o : IsTotalOrder cmp) where
 
   pub left-ordered : (bad good : List (Span K)) → AllByRecursion (IsOrdered cmp) bad → AllByRecursion (IsOrdered cmp) (pieces_left cmp bad good)
   left-ordered bad [] d = d
-  left-ordered bad (g ∷ good) d = left-ordered (flat_map (cut_one cmp g) bad) good (each-flat (IsOrdered cmp) g bad (λ s p. each-cut (IsOrdered cmp) g s p (λ m b. low_is_up cmp o s.first g.first b) (λ m b. low_is_up cmp o g.last s.last b)) d)
+  left-ordered bad (g ∷ good) d = left-ordered (flat_map (cut_one cmp g) bad) good
+      (each-flat (IsOrdered cmp) g bad (λ s p. each-cut (IsOrdered cmp) g s p (λ m b. low_is_up cmp o s.first g.first b) (λ m b. low_is_up cmp o g.last s.last b)) d)
 
   -- both bounds have P
   abbrev pub Bounds : (K → Type 0) → Span K → Type 0
@@ -140,7 +146,8 @@ module _ {K : Type 0} (cmp : K → K → Ordering) (o : IsTotalOrder cmp) where
       those : (e : Border) → ((s : Span K) → Bounds P s → P (bound e s)) → AreThose cmp (map (bound e) ss) (Free cmp e ss) (map (bound e) merged) → AllByRecursion (λ s. P (bound e s)) merged
       those e p t =
           each-unmapped (bound e) P merged (each-with (λ k. AnyByRecursion (λ j. Same cmp k j × Free cmp e ss j) (map (bound e) ss)) P (map (bound e) merged)
-          (λ k h. any-get (Bounds P) (λ s. Same cmp k (bound e s) × Free cmp e ss (bound e s)) (P k) ss (λ s b q. f k (bound e s) q.0 (p s b)) d (any-unmapped (bound e) (λ j. Same cmp k j × Free cmp e ss j) ss h)) t.sound)
+          (λ k h. any-get (Bounds P) (λ s. Same cmp k (bound e s) × Free cmp e ss (bound e s)) (P k) ss (λ s b q. f k (bound e s) q.0 (p s b)) d
+          (any-unmapped (bound e) (λ j. Same cmp k j × Free cmp e ss j) ss h)) t.sound)
 
   -- where each element has two bounds, each is equal to a bound of one, and what is equal to that is so too
   module _ {X : Type 0} (first last : X → K) where

@@ -59,7 +59,8 @@ module _ {K D : Type 0} (cmp : K → K → Ordering) (o : IsTotalOrder cmp)
       go false k = h
 
   -- the mark of an entry, those that are made within it, and those that come after
-  marks-have : (s : Span K) (m : Mark K) (inner after : List (Mark K)) (P : List (Entry K D)) → MK m → AllByRecursion MK inner → AllByRecursion PE P → AllByRecursion MK after → AllByRecursion MK (m ∷ (inner ++ (bad_marks cmp (front_within cmp s P) ++ after)))
+  marks-have : (s : Span K) (m : Mark K) (inner after : List (Mark K)) (P : List (Entry K D)) → MK m → AllByRecursion MK inner → AllByRecursion PE P
+      → AllByRecursion MK after → AllByRecursion MK (m ∷ (inner ++ (bad_marks cmp (front_within cmp s P) ++ after)))
   marks-have s m inner after P h i p a = (h, each-append MK inner (bad_marks cmp (front_within cmp s P) ++ after) i (each-append MK (bad_marks cmp (front_within cmp s P)) after (front-has s P p) a))
 
   pub walk-each : {R : Span K} {last : Option (Span K)} {P L P' L' : List (Entry K D)} {ms : List (Mark K)} → Walk cmp R last P L ms P' L'

@@ -10,7 +10,8 @@ use Rattle.merkle_diff.proofs.OrderTests.{same_back}
 join : {a b : Bool} → a ≡ true → b ≡ true → a && b ≡ true
 join p q = λ i. p i && q i
 
-module _ {K D : Type 0} (cmp : K → K → Ordering) (o : IsTotalOrder cmp) (eq : K → K → Bool) (matches : (x y : K) → eq x y ≡ is_eq (cmp x y)) (alike : D → D → Bool) (itself : (d : D) → alike d d ≡ true) where
+module _ {K D : Type 0} (cmp : K → K → Ordering) (o : IsTotalOrder cmp) (eq : K → K → Bool) (matches : (x y : K) → eq x y ≡ is_eq (cmp x y))
+    (alike : D → D → Bool) (itself : (d : D) → alike d d ≡ true) where
   equal_by : (a b : Entry K D) → SameEntry cmp a b → same_entry eq alike a b ≡ true
   equal_by a b h = join (matches a.first b.first ∙ ap is_eq h.0.0) (join (matches a.last b.last ∙ ap is_eq h.0.1) (subst (λ d. alike a.digest d ≡ true) h.1 (itself a.digest)))
 

@@ -41,7 +41,8 @@ module _ {K : Type 0} (cmp : K → K → Ordering) (o : IsTotalOrder cmp) where
   one-found : (s : Span K) (bad good found : List (Span K)) → IsOrdered cmp s → IsMerge cmp (s ∷ []) bad → IsMerge cmp [] good → IsExactCut cmp bad good found → SameSpans cmp found (s ∷ [])
   one-found s bad good found d m n c =
       let b = merge-of_apart cmp o (s ∷ []) bad (d, tt) (tt, tt) m in
-      let f : SameSpans cmp bad found = merge-of_apart cmp o bad found (ordered-same cmp o (s ∷ []) bad b (d, tt)) (apart-same cmp o (s ∷ []) bad b (tt, tt)) (subst (λ g. IsMerge cmp (pieces_left cmp bad g) found) (none-merge good n) c) in
+      let f : SameSpans cmp bad found = merge-of_apart cmp o bad found (ordered-same cmp o (s ∷ []) bad b (d, tt)) (apart-same cmp o (s ∷ []) bad b (tt, tt))
+      (subst (λ g. IsMerge cmp (pieces_left cmp bad g) found) (none-merge good n) c) in
       spans-trans found bad (s ∷ []) (same-back cmp o bad found f) (same-back cmp o (s ∷ []) bad b)
 
   decide-in : (k : K) (ss : List (Span K)) → IsCovered cmp k ss ⊎ ¬ (IsCovered cmp k ss)
@@ -97,7 +98,8 @@ module _ {K D : Type 0} (cmp : K → K → Ordering) (o : IsTotalOrder cmp) wher
   marks-known es ls b ps P' L' ms d pb lb w =
       (walk-each cmp o (λ e. IsOrdered cmp (span_of e) × (IsBoundOfEntry cmp es e.first × IsBoundOfEntry cmp es e.last)) (λ e. IsBoundOfEntry cmp es e.first) (IsBoundOfEntry cmp es) (Known es)
       (λ e h. h.1) (λ e h. h) (λ e h. h) (λ x y h k u. (u, (h, k))) (λ p l h i j. h) w pb.0.0
-      (each-both (λ e. IsOrdered cmp (span_of e)) (λ e. IsBoundOfEntry cmp es e.first × IsBoundOfEntry cmp es e.last) (λ e. IsOrdered cmp (span_of e) × (IsBoundOfEntry cmp es e.first × IsBoundOfEntry cmp es e.last)) (b ∷ ps) (λ e x y. (x, y)) d pb)
+      (each-both (λ e. IsOrdered cmp (span_of e)) (λ e. IsBoundOfEntry cmp es e.first × IsBoundOfEntry cmp es e.last)
+      (λ e. IsOrdered cmp (span_of e) × (IsBoundOfEntry cmp es e.first × IsBoundOfEntry cmp es e.last)) (b ∷ ps) (λ e x y. (x, y)) d pb)
       (each-with (λ e. IsBoundOfEntry cmp es e.first × IsBoundOfEntry cmp es e.last) (λ e. IsBoundOfEntry cmp es e.first) ls (λ e x. x.0) lb)).0
 
   -- ---- what agrees
@@ -118,7 +120,8 @@ module _ {K D : Type 0} (cmp : K → K → Ordering) (o : IsTotalOrder cmp) wher
     agreed-key : (k : K) (g : Span K) → IsIn cmp k g → AgreedSpan g → IsAgreed cmp ls ps k
     agreed-key k g i h = any-map (λ p. (span_of p ≡ g) × HasDigestOf p ls) (λ p. IsIn cmp k (span_of p) × HasDigestOf p ls) ps (λ p e. (subst (IsIn cmp k) (sym e.0) i, e.1)) h
 
-  marks-agreed : (ls : List (Entry K D)) (b : Entry K D) (ps P' L' : List (Entry K D)) (ms : List (Mark K)) → Walk cmp (span_of b) None (b ∷ ps) ls ms P' L' → AllByRecursion (MarkAgreed ls (b ∷ ps)) ms
+  marks-agreed : (ls : List (Entry K D)) (b : Entry K D) (ps P' L' : List (Entry K D)) (ms : List (Mark K)) → Walk cmp (span_of b) None (b ∷ ps) ls ms P' L'
+      → AllByRecursion (MarkAgreed ls (b ∷ ps)) ms
   marks-agreed ls b ps P' L' ms w =
       (walk-each cmp o (λ e. AnyByRecursion (λ y. y ≡ e) (b ∷ ps)) (λ e. AnyByRecursion (λ y. y ≡ e) ls) (λ k. Unit {0}) (MarkAgreed ls (b ∷ ps))
       (λ e h. (tt, tt)) (λ e h. tt) (λ e h. tt) (λ x y h k u. tt) (λ p l h i j. agreed ls (b ∷ ps) p l h i j) w tt (every-in (b ∷ ps)) (every-in ls)).0
@@ -130,7 +133,8 @@ module _ {K D : Type 0} (cmp : K → K → Ordering) (o : IsTotalOrder cmp) wher
     es = ls ++ b ∷ ps
 
     known : AllByRecursion (Known es) ms
-    known = marks-known es ls b ps P' L' ms d (each-behind (λ e. IsBoundOfEntry cmp es e.first × IsBoundOfEntry cmp es e.last) ls (b ∷ ps) (entry-bounds es)) (each-before (λ e. IsBoundOfEntry cmp es e.first × IsBoundOfEntry cmp es e.last) ls (b ∷ ps) (entry-bounds es)) w
+    known = marks-known es ls b ps P' L' ms d (each-behind (λ e. IsBoundOfEntry cmp es e.first × IsBoundOfEntry cmp es e.last) ls (b ∷ ps) (entry-bounds es))
+        (each-before (λ e. IsBoundOfEntry cmp es e.first × IsBoundOfEntry cmp es e.last) ls (b ∷ ps) (entry-bounds es)) w
 
     bad-ordered : AllByRecursion (IsOrdered cmp) (bad_of ms)
     bad-ordered = each-bad (IsOrdered cmp) (Known es) ms (λ s h. h.0) known
@@ -164,7 +168,8 @@ module _ {K D : Type 0} (cmp : K → K → Ordering) (o : IsTotalOrder cmp) wher
         (λ s f e. ((found-in s.first (f s.first (up_self cmp o s.first, e))).0, (found-in s.last (f s.last (e, up_self cmp o s.last))).1)) (each-in cmp o found) found-ordered
 
     -- where the peer's first span was marked bad or agrees
-    covered : (k : K) → IsIn cmp k (span_of b) → (agree : Bool) (more : List (Mark K)) → ms ≡ (if agree then Good (span_of b) else Bad (span_of b)) ∷ more → IsCovered cmp k found ⊎ IsAgreed cmp ls (b ∷ ps) k
+    covered : (k : K) → IsIn cmp k (span_of b) → (agree : Bool) (more : List (Mark K)) → ms ≡ (if agree then Good (span_of b) else Bad (span_of b)) ∷ more
+        → IsCovered cmp k found ⊎ IsAgreed cmp ls (b ∷ ps) k
     covered k i true more e = inr (agreed-key ls (b ∷ ps) k (span_of b) i (subst (AllByRecursion (MarkAgreed ls (b ∷ ps))) e (marks-agreed ls b ps P' L' ms w)).0)
     covered k i false more e = go (decide-in cmp o k good)
       where
@@ -179,7 +184,8 @@ module _ {K D : Type 0} (cmp : K → K → Ordering) (o : IsTotalOrder cmp) wher
     no-mark : ms ≡ [] → found ≡ []
     no-mark h = no-found cmp o bad good found (subst (λ x. IsMerge cmp (bad_of x) bad) h mb) c
 
-  pub by-table : (ls : List (Entry K D)) (b : Entry K D) (ps : List (Entry K D)) (found : List (Span K)) → AllByRecursion (λ e. IsOrdered cmp (span_of e)) (b ∷ ps) → IsByWalk cmp ls (b ∷ ps) found → IsByTable cmp ls (b ∷ ps) found
+  pub by-table : (ls : List (Entry K D)) (b : Entry K D) (ps : List (Entry K D)) (found : List (Span K))
+      → AllByRecursion (λ e. IsOrdered cmp (span_of e)) (b ∷ ps) → IsByWalk cmp ls (b ∷ ps) found → IsByTable cmp ls (b ∷ ps) found
   by-table [] b ps found d (ms, P', L', bad, good, w, mb, mg, c) =
       one-mark [] b ps found d ms P' L' bad good w mb mg c (span_of b) d.0 ((inv-nil cmp w (within_self cmp o (span_of b))).0 ∙ rw (to_upto cmp o b.first b.last d.0) refl)
   by-table (a ∷ ls) b ps found d (ms, P', L', bad, good, w, mb, mg, c) = record {
@@ -187,13 +193,17 @@ module _ {K D : Type 0} (cmp : K → K → Ordering) (o : IsTotalOrder cmp) wher
         let u : Upto cmp b.first (gap_end cmp b (a ∷ ls)) = lesser-above cmp o b.first a.first b.last (low_is_up cmp o b.first a.first h) d.0 in
         spans-trans cmp o found (s ∷ []) (record { first = b.first; last = lesser cmp a.first b.last } ∷ [])
         (one-mark (a ∷ ls) b ps found d ms P' L' bad good w mb mg c s u
-        ((inv-between cmp w (within_self cmp o (span_of b)) (not_within cmp o (span_of a) (span_of b) (λ v. not_both cmp o a.last b.last v.1 k)) (not_within cmp o (span_of b) (span_of a) (λ v. not_both cmp o a.first b.first v.0 h))).0 ∙ marked s.last u))
+        ((inv-between cmp w (within_self cmp o (span_of b)) (not_within cmp o (span_of a) (span_of b) (λ v. not_both cmp o a.last b.last v.1 k))
+        (not_within cmp o (span_of b) (span_of a) (λ v. not_both cmp o a.first b.first v.0 h))).0 ∙ marked s.last u))
         ((same-self cmp o b.first, lesser-same cmp o b.last a.first), tt);
     behind = λ h k. no-mark (a ∷ ls) b ps found d ms P' L' bad good w mb mg c
-        ((inv-between cmp w (within_self cmp o (span_of b)) (not_within cmp o (span_of a) (span_of b) (λ v. not_both cmp o b.first a.first v.0 h)) (not_within cmp o (span_of b) (span_of a) (λ v. not_both cmp o b.last a.last v.1 k))).0
+        ((inv-between cmp w (within_self cmp o (span_of b)) (not_within cmp o (span_of a) (span_of b) (λ v. not_both cmp o b.first a.first v.0 h))
+        (not_within cmp o (span_of b) (span_of a) (λ v. not_both cmp o b.last a.last v.1 k))).0
         ∙ (ap (λ e. gap_mark cmp b.first e) (ends h) ∙ unmarked h));
     within = λ v n. no-mark (a ∷ ls) b ps found d ms P' L' bad good w mb mg c
-        (inv-held cmp w (within_self cmp o (span_of b)) (not_within cmp o (span_of a) (span_of b) (λ i. n (same_from cmp o a.first b.first v.0 i.0, same_from cmp o a.last b.last i.1 v.1))) (to_within cmp o (span_of b) (span_of a) v)).0;
+        (inv-held cmp w (within_self cmp o (span_of b))
+        (not_within cmp o (span_of a) (span_of b) (λ i. n (same_from cmp o a.first b.first v.0 i.0, same_from cmp o a.last b.last i.1 v.1)))
+        (to_within cmp o (span_of b) (span_of a) v)).0;
     holds = λ v k i. let x = inv-into cmp w (within_self cmp o (span_of b)) (to_within cmp o (span_of a) (span_of b) v) in covered (a ∷ ls) b ps found d ms P' L' bad good w mb mg c k i x.0 _ x.8;
   }
     where

@@ -21,7 +21,8 @@ use Rattle.merkle_diff.proofs.Queues.{front_of, Drains-from}
 use Rattle.merkle_diff.proofs.OrderTests.{not_upto, to_within, within_self, within_by}
 
 module _ {K : Type 0} (cmp : K → K → Ordering) (o : IsTotalOrder cmp) where
-  nothing : (a b : Entry K PageDigest) (ls ps : List (Entry K PageDigest)) → IsOrdered cmp (span_of b) → may_answer cmp (span_of a) (span_of b) ≡ false → Walk cmp (span_of b) None (b ∷ ps) (a ∷ ls) [] ps (a ∷ ls)
+  nothing : (a b : Entry K PageDigest) (ls ps : List (Entry K PageDigest)) → IsOrdered cmp (span_of b) → may_answer cmp (span_of a) (span_of b) ≡ false
+      → Walk cmp (span_of b) None (b ∷ ps) (a ∷ ls) [] ps (a ∷ ls)
   nothing a b ls ps d h = go (is_within cmp (span_of b) (span_of a)) refl
     where
       f : is_within cmp (span_of a) (span_of b) ≡ false
@@ -58,7 +59,8 @@ module _ {K D : Type 0} (cmp : K → K → Ordering) (o : IsTotalOrder cmp) wher
   pub may-or_none : (a b : Entry K D) (ls ps : List (Entry K D)) (found : List (Span K)) → IsByFirsts cmp a b ls ps found → MayAnswer cmp a b ⊎ (found ≡ [])
   may-or_none a b ls ps found t = go (either cmp o a.first b.first) (either cmp o b.first a.first) (either cmp o a.last b.last) (either cmp o b.last a.last)
     where
-      go : Upto cmp a.first b.first ⊎ Below cmp b.first a.first → Upto cmp b.first a.first ⊎ Below cmp a.first b.first → Upto cmp a.last b.last ⊎ Below cmp b.last a.last → Upto cmp b.last a.last ⊎ Below cmp a.last b.last → MayAnswer cmp a b ⊎ (found ≡ [])
+      go : Upto cmp a.first b.first ⊎ Below cmp b.first a.first → Upto cmp b.first a.first ⊎ Below cmp a.first b.first → Upto cmp a.last b.last
+          ⊎ Below cmp b.last a.last → Upto cmp b.last a.last ⊎ Below cmp a.last b.last → MayAnswer cmp a b ⊎ (found ≡ [])
       go (inr l) s (inr m) e = inl (inl (l, m))
       go (inr l) s (inl m) e = inl (inr (low_is_up cmp o b.first a.first l, m))
       go (inl l) (inl s) (inl m) e = inl (inr (s, m))
@@ -66,17 +68,29 @@ module _ {K D : Type 0} (cmp : K → K → Ordering) (o : IsTotalOrder cmp) wher
       go (inl l) (inr s) m (inl e) = inr (t.within (l, e) (λ same. not_both cmp o b.first a.first (same_down cmp o a.first b.first same.0) s))
       go (inl l) (inr s) m (inr e) = inr (t.behind s e)
 
-pub nothing-by_walk : {K : Type 0} {o e p : _} (cmp : K → K → Ordering) (t : IsTotalOrder cmp) (ls ps : List (PageRange K o e p)) (head : Option (PageRange K o e p)) (first : PageRange K o e p) (s : Span K) (found : List (Span K))
-    → ((r : PageRange K o e p) → IsOrdered cmp (span_of (entry r))) → Some first ≡ front_of ps → head ≡ front_of ls → s ≡ span_of (entry first) → head_may_answer cmp head s ≡ false → found ≡ [] → IsByWalk cmp (entries ls) (entries ps) found
+pub nothing-by_walk : {K : Type 0} {o e p : _} (cmp : K → K → Ordering) (t : IsTotalOrder cmp) (ls ps : List (PageRange K o e p))
+    (head : Option (PageRange K o e p)) (first : PageRange K o e p) (s : Span K) (found : List (Span K))
+    → ((r : PageRange K o e p) → IsOrdered cmp (span_of (entry r))) → Some first ≡ front_of ps → head ≡ front_of ls → s ≡ span_of (entry first)
+    → head_may_answer cmp head s ≡ false → found ≡ [] → IsByWalk cmp (entries ls) (entries ps) found
 nothing-by_walk cmp t ls [] head first s found d f g q h z = cc
 nothing-by_walk cmp t [] (b ∷ ps) head first s found d f g q h z = let r = sym (ap (λ v. head_may_answer cmp v s) g) ∙ h in cc
 nothing-by_walk cmp t (a ∷ ls) (b ∷ ps) head first s found d f g q h z =
     let x : first ≡ b = cc in
     let r = sym (ap (λ v. head_may_answer cmp v s) g) ∙ h in
-    let m = subst (λ v. may_answer cmp (span_of (entry a)) v ≡ false) (q ∙ ap (λ v. span_of (entry v)) x) r in
-    ([], entries ps, entry a ∷ entries ls, [], [], nothing cmp t (entry a) (entry b) (entries ls) (entries ps) (d b) m, none-merged cmp, none-merged cmp, subst (IsMerge cmp []) (sym z) (none-merged cmp))
+    let m = subst (λ v. may_answer cmp (span_of (entry a)) v ≡ false) (q ∙ ap (λ v. span_of (entry v)) x) r in (
+      [],
+      entries ps,
+      entry a ∷ entries ls,
+      [],
+      [],
+      nothing cmp t (entry a) (entry b) (entries ls) (entries ps) (d b) m,
+      none-merged cmp,
+      none-merged cmp,
+      subst (IsMerge cmp []) (sym z) (none-merged cmp),
+    )
 
-pub begun : {V I X : Type 0} (becomes : V → I → Type 0) (steps : I → Option X → I → Type 0) (v : V) (it : I) (q : Lookahead I X) (x : X) → becomes v it → steps it q.head q.rest → q.head ≡ Some x → Begins becomes steps v (x ∷ [])
+pub begun : {V I X : Type 0} (becomes : V → I → Type 0) (steps : I → Option X → I → Type 0) (v : V) (it : I) (q : Lookahead I X) (x : X) → becomes v it
+    → steps it q.head q.rest → q.head ≡ Some x → Begins becomes steps v (x ∷ [])
 begun becomes steps v it q x b s h = (it, q.rest, b, (q.rest, subst (λ z. steps it z q.rest) h s, refl))
 
 pub on_err : {A E : Type 0} (r : Result A E) (P : Type 0) → P → OnErr r P
@@ -97,6 +111,7 @@ pub cause : {U IU T IT K : Type 0} {o e p : _} (cmp : K → K → Ordering)
     → (b : PageRange K o e p) × Begins bu su peer (b ∷ []) × (Gives bt st local [] ⊎ ((a : PageRange K o e p) × Begins bt st local (a ∷ []) × MayAnswer cmp (entry a) (entry b)))
 cause {K = K} {o = o} {e = e} {p = p} cmp bu su peer iu qu bt st local it qt xu yu xt yt (b, h, m) = (b, begun bu su peer iu qu b xu yu h, go m)
   where
-    go : (qt.head ≡ None) ⊎ ((a : PageRange K o e p) × (qt.head ≡ Some a) × MayAnswer cmp (entry a) (entry b)) → Gives bt st local [] ⊎ ((a : PageRange K o e p) × Begins bt st local (a ∷ []) × MayAnswer cmp (entry a) (entry b))
+    go : (qt.head ≡ None) ⊎ ((a : PageRange K o e p) × (qt.head ≡ Some a) × MayAnswer cmp (entry a) (entry b)) → Gives bt st local []
+        ⊎ ((a : PageRange K o e p) × Begins bt st local (a ∷ []) × MayAnswer cmp (entry a) (entry b))
     go (inl f) = inl (it, xt, Drains-from st [] it qt yt f)
     go (inr (a, f, n)) = inr (a, begun bt st local it qt a xt yt f, n)

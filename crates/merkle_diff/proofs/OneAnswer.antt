@@ -33,13 +33,15 @@ module _ {K D : Type 0} (cmp : K → K → Ordering) where
       let x = inv-into cmp u h i in
       let t = agree-by x.0 x.5 j in
       let m = same_walk w (subst (λ b. Walk cmp (span_of p) None (if b then after_within cmp (span_of p) P else P) (after_holders cmp (span_of p) L) x.1 x.3 x.4) t x.6) in
-      let n = same_walk v (subst (λ q. Walk cmp R (Some (span_of p)) (after_within cmp (span_of p) q) L' x.2 P2 L2) m.1 (subst (λ q. Walk cmp R (Some (span_of p)) (after_within cmp (span_of p) x.3) q x.2 P2 L2) m.2 x.7)) in
+      let n = same_walk v (subst (λ q. Walk cmp R (Some (span_of p)) (after_within cmp (span_of p) q) L' x.2 P2 L2) m.1
+      (subst (λ q. Walk cmp R (Some (span_of p)) (after_within cmp (span_of p) x.3) q x.2 P2 L2) m.2 x.7)) in
       (x.8 ∙ (λ k. (if t k then Good (span_of p) else Bad (span_of p)) ∷ (m.0 k ++ (bad_marks cmp (front_within cmp (span_of p) (m.1 k)) ++ n.0 k))), n.1, n.2)
   same_walk {R = R} {P2 = P2} {L2 = L2} (differs {p = p} {P = P} {L = L} {L' = L'} h i j w v) u =
       let x = inv-into cmp u h i in
       let t = differ-by x.0 x.5 j in
       let m = same_walk w (subst (λ b. Walk cmp (span_of p) None (if b then after_within cmp (span_of p) P else P) (after_holders cmp (span_of p) L) x.1 x.3 x.4) t x.6) in
-      let n = same_walk v (subst (λ q. Walk cmp R (Some (span_of p)) (after_within cmp (span_of p) q) L' x.2 P2 L2) m.1 (subst (λ q. Walk cmp R (Some (span_of p)) (after_within cmp (span_of p) x.3) q x.2 P2 L2) m.2 x.7)) in
+      let n = same_walk v (subst (λ q. Walk cmp R (Some (span_of p)) (after_within cmp (span_of p) q) L' x.2 P2 L2) m.1
+      (subst (λ q. Walk cmp R (Some (span_of p)) (after_within cmp (span_of p) x.3) q x.2 P2 L2) m.2 x.7)) in
       (x.8 ∙ (λ k. (if t k then Good (span_of p) else Bad (span_of p)) ∷ (m.0 k ++ (bad_marks cmp (front_within cmp (span_of p) (m.1 k)) ++ n.0 k))), n.1, n.2)
 
 module _ {K : Type 0} (cmp : K → K → Ordering) (o : IsTotalOrder cmp) where
@@ -61,9 +63,11 @@ module _ {K : Type 0} (cmp : K → K → Ordering) (o : IsTotalOrder cmp) where
   cut-same : (g h s t : Span K) → SameSpan cmp g h → SameSpan cmp s t → SameSpans cmp (cut_one cmp g s) (cut_one cmp h t)
   cut-same g h s t e f = by (meets cmp g s) (meets cmp h t) (rw (compare-same cmp o g.first h.first s.last t.last e.0 f.1, compare-same cmp o s.first t.first g.last h.last f.0 e.1) refl)
     where
-      by : (p q : Bool) → p ≡ q → SameSpans cmp (if p then (piece cmp s.first g.first ++ piece cmp g.last s.last) else (s ∷ [])) (if q then (piece cmp t.first h.first ++ piece cmp h.last t.last) else (t ∷ []))
+      by : (p q : Bool) → p ≡ q → SameSpans cmp (if p then (piece cmp s.first g.first ++ piece cmp g.last s.last) else (s ∷ []))
+          (if q then (piece cmp t.first h.first ++ piece cmp h.last t.last) else (t ∷ []))
       by true true r =
-          spans-append (piece cmp s.first g.first) (piece cmp g.last s.last) (piece cmp t.first h.first) (piece cmp h.last t.last) (piece-same s.first t.first g.first h.first f.0 e.0) (piece-same g.last h.last s.last t.last e.1 f.1)
+          spans-append (piece cmp s.first g.first) (piece cmp g.last s.last) (piece cmp t.first h.first) (piece cmp h.last t.last)
+          (piece-same s.first t.first g.first h.first f.0 e.0) (piece-same g.last h.last s.last t.last e.1 f.1)
       by false false r = (f, tt)
       by true false r = absurd (cc)
       by false true r = absurd (cc)
@@ -82,7 +86,8 @@ module _ {K : Type 0} (cmp : K → K → Ordering) (o : IsTotalOrder cmp) where
   left-same (g ∷ good) [] e bad poor f = absurd e
   left-same (g ∷ good) (h ∷ fine) e bad poor f = left-same good fine e.1 (flat_map (cut_one cmp g) bad) (flat_map (cut_one cmp h) poor) (flat-same g h e.0 bad poor f)
 
-  those-same : (P Q : K → Type 0) → ((a b : K) → Same cmp a b → P a → Q b) → ((a b : K) → Same cmp a b → Q b → P a) → (from to ks : List K) → SameKeys cmp from to → AreThose cmp from P ks → AreThose cmp to Q ks
+  those-same : (P Q : K → Type 0) → ((a b : K) → Same cmp a b → P a → Q b) → ((a b : K) → Same cmp a b → Q b → P a) → (from to ks : List K)
+      → SameKeys cmp from to → AreThose cmp from P ks → AreThose cmp to Q ks
   those-same P Q p q from to ks e m = record {
     ascends = m.ascends;
     sound = each-with (λ k. AnyByRecursion (λ j. Same cmp k j × P j) from) (λ k. AnyByRecursion (λ j. Same cmp k j × Q j) to) ks
@@ -110,7 +115,8 @@ module _ {K : Type 0} (cmp : K → K → Ordering) (o : IsTotalOrder cmp) where
         (λ s t w n c. n (across-same cmp o e b a s (same_back cmp o a b q) (across-within cmp o e b t s (same_up cmp o s.first t.first w.0, same_down cmp o s.last t.last w.1) c))) h
 
     those-alike : (xs ys : List (Span K)) (ks : List K) → SameSpans cmp xs ys → AreThose cmp (map (bound e) xs) (Free cmp e xs) ks → AreThose cmp (map (bound e) ys) (Free cmp e ys) ks
-    those-alike xs ys ks h = those-same (Free cmp e xs) (Free cmp e ys) (free-alike xs ys h) (λ a b q. free-alike ys xs (same-back cmp o xs ys h) b a (same_back cmp o a b q)) (map (bound e) xs) (map (bound e) ys) ks (bounds-same xs ys h)
+    those-alike xs ys ks h = those-same (Free cmp e xs) (Free cmp e ys) (free-alike xs ys h)
+        (λ a b q. free-alike ys xs (same-back cmp o xs ys h) b a (same_back cmp o a b q)) (map (bound e) xs) (map (bound e) ys) ks (bounds-same xs ys h)
 
   -- the same spans have the same merges
   pub merge-same : (xs ys merged : List (Span K)) → SameSpans cmp xs ys → IsMerge cmp xs merged → IsMerge cmp ys merged

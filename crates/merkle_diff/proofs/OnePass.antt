@@ -47,12 +47,14 @@ module _ {K : Type 0} (cmp : K → K → Ordering) (o : IsTotalOrder cmp) where
   cut-before : (e : K) (ss good : List (Span K)) → AllByRecursion (λ s. Upto cmp s.last e) ss → AllByRecursion (λ g. Below cmp e g.first) good → pieces_left cmp ss good ≡ ss
   cut-before e ss [] u b = refl
   cut-before e ss (g ∷ good) u b =
-      ap (λ xs. pieces_left cmp xs good) (each-whole g ss (each-with (λ s. Upto cmp s.last e) (λ s. ¬ (Meets cmp g s)) ss (λ s l m. not_both cmp o g.first s.last m.0 (up_low cmp o s.last e g.first l b.0)) u))
+      ap (λ xs. pieces_left cmp xs good)
+      (each-whole g ss (each-with (λ s. Upto cmp s.last e) (λ s. ¬ (Meets cmp g s)) ss (λ s l m. not_both cmp o g.first s.last m.0 (up_low cmp o s.last e g.first l b.0)) u))
       ∙ cut-before e ss good u b.1
 
   module _ (g s : Span K) (good : List (Span K)) (ordered : IsOrdered cmp g) (after : AllByRecursion (λ t. Below cmp g.last t.first) good) where
     -- a good range that ends within a range leaves a piece before it, and the range goes on after it
-    pub cut-within : Upto cmp s.first g.last → Below cmp g.last s.last → pieces_left cmp (s ∷ []) (g ∷ good) ≡ piece cmp s.first g.first ++ pieces_left cmp (record { first = g.last; last = s.last } ∷ []) good
+    pub cut-within : Upto cmp s.first g.last → Below cmp g.last s.last
+        → pieces_left cmp (s ∷ []) (g ∷ good) ≡ piece cmp s.first g.first ++ pieces_left cmp (record { first = g.last; last = s.last } ∷ []) good
     cut-within u b =
         ap (λ xs. pieces_left cmp (xs ++ []) good) cut
         ∙ (ap (λ xs. pieces_left cmp xs good) (append-nil (piece cmp s.first g.first ++ (record { first = g.last; last = s.last } ∷ [])))
@@ -109,7 +111,8 @@ module _ {K : Type 0} (cmp : K → K → Ordering) (o : IsTotalOrder cmp) where
     -- where g ends before the end of the range, it cuts nothing after the range
     pub step-later : (good : List (Span K)) → Below cmp g.last s.last → LeavesAlike cmp s.last good gs → LeavesAlike cmp s.last good rest
     step-later good b f later n =
-        sym (ap (pieces_left cmp later) begins ∙ cut-behind g later rest (each-with (λ t. Below cmp s.last t.first) (λ t. Below cmp g.last t.first) later (λ t l. low_up cmp o g.last s.last t.first b (low_is_up cmp o s.last t.first l)) n))
+        sym (ap (pieces_left cmp later) begins ∙ cut-behind g later rest
+        (each-with (λ t. Below cmp s.last t.first) (λ t. Below cmp g.last t.first) later (λ t l. low_up cmp o g.last s.last t.first b (low_is_up cmp o s.last t.first l)) n))
         ∙ f later n
 
   -- the next bad range

@@ -38,11 +38,13 @@ Leads-end steps q0 q R S test h f l ps lv =
 
 module _ {K D : Type 0} (cmp : K → K → Ordering) where
   -- an entry within s is at the front
-  pub within-more : (s : Span K) (x : Entry K D) (P : List (Entry K D)) → is_within cmp (span_of x) s ≡ true → (after_within cmp s (x ∷ P) ≡ after_within cmp s P) × (front_within cmp s (x ∷ P) ≡ x ∷ front_within cmp s P)
+  pub within-more : (s : Span K) (x : Entry K D) (P : List (Entry K D)) → is_within cmp (span_of x) s ≡ true
+      → (after_within cmp s (x ∷ P) ≡ after_within cmp s P) × (front_within cmp s (x ∷ P) ≡ x ∷ front_within cmp s P)
   within-more s x P h = rw h (refl, refl)
 
   -- so is one that holds s
-  pub holders-more : (s : Span K) (d : D) (x : Entry K D) (P : List (Entry K D)) → is_within cmp s (span_of x) ≡ true → (after_holders cmp s (x ∷ P) ≡ after_holders cmp s P) × (last_digest cmp s d (x ∷ P) ≡ last_digest cmp s x.digest P)
+  pub holders-more : (s : Span K) (d : D) (x : Entry K D) (P : List (Entry K D)) → is_within cmp s (span_of x) ≡ true
+      → (after_holders cmp s (x ∷ P) ≡ after_holders cmp s P) × (last_digest cmp s d (x ∷ P) ≡ last_digest cmp s x.digest P)
   holders-more s d x P h = rw h (refl, refl)
 
   -- the last digest is that of the last holder
@@ -56,11 +58,13 @@ module _ {K D : Type 0} (cmp : K → K → Ordering) where
       go false h = refl
 
 -- no entry is at the front
-pub within-stops : {K : Type 0} {o e p : _} (cmp : K → K → Ordering) (s : Span K) (ps : List (PageRange K o e p)) → head_is (λ r. is_within cmp (span_of (entry r)) s) (front_of ps) ≡ false → (after_within cmp s (entries ps) ≡ entries ps) × (front_within cmp s (entries ps) ≡ [])
+pub within-stops : {K : Type 0} {o e p : _} (cmp : K → K → Ordering) (s : Span K) (ps : List (PageRange K o e p))
+    → head_is (λ r. is_within cmp (span_of (entry r)) s) (front_of ps) ≡ false → (after_within cmp s (entries ps) ≡ entries ps) × (front_within cmp s (entries ps) ≡ [])
 within-stops cmp s [] h = (refl, refl)
 within-stops cmp s (x ∷ ps) h = let e : is_within cmp (span_of (entry x)) s ≡ false = h in rw e (refl, refl)
 
-pub holders-stop : {K : Type 0} {o e p : _} (cmp : K → K → Ordering) (s : Span K) (d : PageDigest) (ps : List (PageRange K o e p)) → head_is (λ r. is_within cmp s (span_of (entry r))) (front_of ps) ≡ false → (after_holders cmp s (entries ps) ≡ entries ps) × (last_digest cmp s d (entries ps) ≡ d)
+pub holders-stop : {K : Type 0} {o e p : _} (cmp : K → K → Ordering) (s : Span K) (d : PageDigest) (ps : List (PageRange K o e p))
+    → head_is (λ r. is_within cmp s (span_of (entry r))) (front_of ps) ≡ false → (after_holders cmp s (entries ps) ≡ entries ps) × (last_digest cmp s d (entries ps) ≡ d)
 holders-stop cmp s d [] h = (refl, refl)
 holders-stop cmp s d (x ∷ ps) h = let e : is_within cmp s (span_of (entry x)) ≡ false = h in rw e (refl, refl)
 

@@ -47,7 +47,8 @@ module _ {K D : Type 0} (cmp : K → K → Ordering) (o : IsTotalOrder cmp) wher
     apart = apart-same cmp o xs ys e d.apart;
     ordered = ordered-same cmp o xs ys e d.ordered;
     inside = each-same cmp o (IsInFirst cmp ps) (IsInFirst cmp ps) xs ys (inside-same ps) e d.inside;
-    bounds = each-same cmp o (λ s. IsBoundOfEntry cmp (ls ++ ps) s.first × IsBoundOfEntry cmp (ls ++ ps) s.last) (λ s. IsBoundOfEntry cmp (ls ++ ps) s.first × IsBoundOfEntry cmp (ls ++ ps) s.last) xs ys (bounds-same (ls ++ ps)) e d.bounds;
+    bounds = each-same cmp o (λ s. IsBoundOfEntry cmp (ls ++ ps) s.first × IsBoundOfEntry cmp (ls ++ ps) s.last)
+        (λ s. IsBoundOfEntry cmp (ls ++ ps) s.first × IsBoundOfEntry cmp (ls ++ ps) s.last) xs ys (bounds-same (ls ++ ps)) e d.bounds;
     table = table-same ls ps xs ys e d.table;
   }
 

@@ -86,7 +86,10 @@ module _ {K D : Type 0} (cmp : K → K → Ordering) (o : IsTotalOrder cmp) wher
             ((bd.0.0, lesser-alike cmp o a.first b.last c.first d.last ac.0.0 bd.0.1), tt);
         behind = λ l m. t.behind (below-same cmp o c.first a.first d.first b.first ca.0.0 db.0.0 l) (below-same cmp o c.last a.last d.last b.last ca.0.1 db.0.1 m);
         within = λ w n. t.within (within-alike d c b a db ca w)
-            (λ s. n (same_trans cmp o c.first b.first d.first (same_trans cmp o c.first a.first b.first ca.0.0 s.0) bd.0.0, same_trans cmp o c.last b.last d.last (same_trans cmp o c.last a.last b.last ca.0.1 s.1) bd.0.1));
+            (λ s. n (
+              same_trans cmp o c.first b.first d.first (same_trans cmp o c.first a.first b.first ca.0.0 s.0) bd.0.0,
+              same_trans cmp o c.last b.last d.last (same_trans cmp o c.last a.last b.last ca.0.1 s.1) bd.0.1,
+            ));
         holds = λ w k i. or k (t.holds (within-alike c d a b ca db w) k (in-alike k d b db i));
       }
     where
@@ -104,7 +107,8 @@ module _ {K D : Type 0} (cmp : K → K → Ordering) (o : IsTotalOrder cmp) wher
   table-alike (a ∷ ls) (b ∷ bs) (p ∷ ps) (q ∷ qs) found h e t = firsts-alike a p b q (a ∷ ls) (b ∷ bs) (p ∷ ps) (q ∷ qs) found h.0 e.0 h e t
 
   -- the interval laws hold of the same lists and the same ranges
-  pub difference-alike : (ls bs ps qs : List (Entry K D)) (xs ys : List (Span K)) → SameEntries cmp ls bs → SameEntries cmp ps qs → SameSpans cmp xs ys → IsDifference cmp ls ps xs → IsDifference cmp bs qs ys
+  pub difference-alike : (ls bs ps qs : List (Entry K D)) (xs ys : List (Span K)) → SameEntries cmp ls bs → SameEntries cmp ps qs → SameSpans cmp xs ys
+      → IsDifference cmp ls ps xs → IsDifference cmp bs qs ys
   difference-alike ls bs ps qs xs ys h e s d =
       let all = same_entries-append cmp ls bs ps qs h e in
       difference-same cmp o bs qs xs ys s
@@ -135,13 +139,15 @@ module _ {K D : Type 0} (cmp : K → K → Ordering) (o : IsTotalOrder cmp) wher
       (leading-alike k (span_of a ∷ seen) (span_of b ∷ met) ls bs ps qs (h.0.0, s) h.1 e.1) i
     where
       by : (v w : Bool) → v ≡ w → (AnyByRecursion (Spared k) (leading_from cmp (span_of a ∷ seen) ls ps) → AnyByRecursion (Spared k) (leading_from cmp (span_of b ∷ met) bs qs))
-          → AnyByRecursion (Spared k) (if v then ((a, p) ∷ leading_from cmp (span_of a ∷ seen) ls ps) else []) → AnyByRecursion (Spared k) (if w then ((b, q) ∷ leading_from cmp (span_of b ∷ met) bs qs) else [])
+          → AnyByRecursion (Spared k) (if v then ((a, p) ∷ leading_from cmp (span_of a ∷ seen) ls ps) else [])
+          → AnyByRecursion (Spared k) (if w then ((b, q) ∷ leading_from cmp (span_of b ∷ met) bs qs) else [])
       by true true r f (inl i) = inl (sym h.0.1 ∙ i.0 ∙ e.0.1, inside-alike k p q e.0 i.1)
       by true true r f (inr i) = inr (f i)
       by true false r f i = absurd (cc)
       by false w r f i = absurd i
 
-  run-alike : (k : K) (ls bs ps qs : List (Entry K D)) → SameEntries cmp ls bs → SameEntries cmp ps qs → AnyByRecursion (Spared k) (leading_run cmp ls ps) → AnyByRecursion (Spared k) (leading_run cmp bs qs)
+  run-alike : (k : K) (ls bs ps qs : List (Entry K D)) → SameEntries cmp ls bs → SameEntries cmp ps qs → AnyByRecursion (Spared k) (leading_run cmp ls ps)
+      → AnyByRecursion (Spared k) (leading_run cmp bs qs)
   run-alike k [] bs ps qs h e i = absurd i
   run-alike k (a ∷ ls) bs [] qs h e i = absurd i
   run-alike k (a ∷ ls) [] (p ∷ ps) qs h e i = absurd h
@@ -162,7 +168,8 @@ module _ {K D : Type 0} (cmp : K → K → Ordering) (o : IsTotalOrder cmp) wher
   )
 
   -- the laws on trees hold of the same lists and the same ranges
-  pub spares-alike : (ls bs ps qs : List (Entry K D)) (xs ys : List (Span K)) → SameEntries cmp ls bs → SameEntries cmp ps qs → SameSpans cmp xs ys → SparesAgreed cmp ls ps xs → SparesAgreed cmp bs qs ys
+  pub spares-alike : (ls bs ps qs : List (Entry K D)) (xs ys : List (Span K)) → SameEntries cmp ls bs → SameEntries cmp ps qs → SameSpans cmp xs ys
+      → SparesAgreed cmp ls ps xs → SparesAgreed cmp bs qs ys
   spares-alike ls bs ps qs xs ys h e s d =
       let back = same_entries-back cmp o ls bs h in
       let peers = same_entries-back cmp o ps qs e in

@@ -118,7 +118,8 @@ module _ {K D : Type 0} (cmp : K → K → Ordering) (o : IsTotalOrder cmp) wher
   front-alike s t h (p ∷ P) [] k = absurd k
   front-alike s t h (p ∷ P) (q ∷ Q) k = by (is_within cmp (span_of p) s) (is_within cmp (span_of q) t) (is_within-alike cmp o (span_of p) s (span_of q) t k.0.0 h) (front-alike s t h P Q k.1)
     where
-      by : (v w : Bool) → v ≡ w → SameEntries cmp (front_within cmp s P) (front_within cmp t Q) → SameEntries cmp (if v then (p ∷ front_within cmp s P) else []) (if w then (q ∷ front_within cmp t Q) else [])
+      by : (v w : Bool) → v ≡ w → SameEntries cmp (front_within cmp s P) (front_within cmp t Q)
+          → SameEntries cmp (if v then (p ∷ front_within cmp s P) else []) (if w then (q ∷ front_within cmp t Q) else [])
       by true true e f = (k.0, f)
       by false false e f = tt
       by true false e f = absurd (cc)
@@ -130,13 +131,15 @@ module _ {K D : Type 0} (cmp : K → K → Ordering) (o : IsTotalOrder cmp) wher
   after-alike s t h (p ∷ P) [] k = absurd k
   after-alike s t h (p ∷ P) (q ∷ Q) k = by (is_within cmp (span_of p) s) (is_within cmp (span_of q) t) (is_within-alike cmp o (span_of p) s (span_of q) t k.0.0 h) (after-alike s t h P Q k.1)
     where
-      by : (v w : Bool) → v ≡ w → SameEntries cmp (after_within cmp s P) (after_within cmp t Q) → SameEntries cmp (if v then after_within cmp s P else (p ∷ P)) (if w then after_within cmp t Q else (q ∷ Q))
+      by : (v w : Bool) → v ≡ w → SameEntries cmp (after_within cmp s P) (after_within cmp t Q)
+          → SameEntries cmp (if v then after_within cmp s P else (p ∷ P)) (if w then after_within cmp t Q else (q ∷ Q))
       by true true e f = f
       by false false e f = k
       by true false e f = absurd (cc)
       by false true e f = absurd (cc)
 
-  holder-alike : (s t : Span K) → SameSpan cmp s t → (l m : Entry K D) → SameEntry cmp l m → (L M : List (Entry K D)) → SameEntries cmp L M → SameEntry cmp (last_holder cmp s l L) (last_holder cmp t m M)
+  holder-alike : (s t : Span K) → SameSpan cmp s t → (l m : Entry K D) → SameEntry cmp l m → (L M : List (Entry K D)) → SameEntries cmp L M
+      → SameEntry cmp (last_holder cmp s l L) (last_holder cmp t m M)
   holder-alike s t h l m e [] [] k = e
   holder-alike s t h l m e [] (y ∷ M) k = absurd k
   holder-alike s t h l m e (x ∷ L) [] k = absurd k
@@ -156,7 +159,8 @@ module _ {K D : Type 0} (cmp : K → K → Ordering) (o : IsTotalOrder cmp) wher
   holders-alike s t h (x ∷ L) (y ∷ M) k =
       by (is_within cmp s (span_of x)) (is_within cmp t (span_of y)) (is_within-alike cmp o s (span_of x) t (span_of y) h k.0.0) (holders-alike s t h L M k.1)
     where
-      by : (v w : Bool) → v ≡ w → SameEntries cmp (after_holders cmp s L) (after_holders cmp t M) → SameEntries cmp (if v then after_holders cmp s L else (x ∷ L)) (if w then after_holders cmp t M else (y ∷ M))
+      by : (v w : Bool) → v ≡ w → SameEntries cmp (after_holders cmp s L) (after_holders cmp t M)
+          → SameEntries cmp (if v then after_holders cmp s L else (x ∷ L)) (if w then after_holders cmp t M else (y ∷ M))
       by true true r f = f
       by false false r f = k
       by true false r f = absurd (cc)
@@ -170,7 +174,8 @@ module _ {K D : Type 0} (cmp : K → K → Ordering) (o : IsTotalOrder cmp) wher
 
   -- a walk on the same lists, which makes the same marks and leaves the same rests
   abbrev WalksAlike : Span K → Option (Span K) → List (Entry K D) → List (Entry K D) → List (Mark K) → List (Entry K D) → List (Entry K D) → Type 0
-  WalksAlike S end Q M ms P1 L1 = (ns : List (Mark K)) × (Q1 : List (Entry K D)) × (M1 : List (Entry K D)) × Walk cmp S end Q M ns Q1 M1 × SameMarks cmp ms ns × SameEntries cmp P1 Q1 × SameEntries cmp L1 M1
+  WalksAlike S end Q M ms P1 L1 = (ns : List (Mark K)) × (Q1 : List (Entry K D)) × (M1 : List (Entry K D)) × Walk cmp S end Q M ns Q1 M1 × SameMarks cmp ms ns
+      × SameEntries cmp P1 Q1 × SameEntries cmp L1 M1
 
   walk-alike : {R : Span K} {last : Option (Span K)} {P L P1 L1 : List (Entry K D)} {ms : List (Mark K)} → Walk cmp R last P L ms P1 L1
       → (S : Span K) (end : Option (Span K)) (Q M : List (Entry K D)) → SameSpan cmp R S → SameLast cmp last end → SameEntries cmp P Q → SameEntries cmp L M → WalksAlike S end Q M ms P1 L1
@@ -185,7 +190,9 @@ module _ {K D : Type 0} (cmp : K → K → Ordering) (o : IsTotalOrder cmp) wher
     [],
     Q,
     m ∷ M,
-    held (sym (is_within-alike cmp o (span_of p) R (span_of q) S h.0.0 r) ∙ i) (sym (is_within-alike cmp o (span_of l) (span_of p) (span_of m) (span_of q) k.0.0 h.0.0) ∙ j) (sym (is_within-alike cmp o (span_of p) (span_of l) (span_of q) (span_of m) h.0.0 k.0.0) ∙ n),
+    held (sym (is_within-alike cmp o (span_of p) R (span_of q) S h.0.0 r) ∙ i)
+        (sym (is_within-alike cmp o (span_of l) (span_of p) (span_of m) (span_of q) k.0.0 h.0.0) ∙ j)
+        (sym (is_within-alike cmp o (span_of p) (span_of l) (span_of q) (span_of m) h.0.0 k.0.0) ∙ n),
     tt,
     h.1,
     k,
@@ -207,7 +214,9 @@ module _ {K D : Type 0} (cmp : K → K → Ordering) (o : IsTotalOrder cmp) wher
     gap_mark cmp (gap_start S end) (gap_end cmp q (m ∷ M)),
     Q,
     m ∷ M,
-    between (sym (is_within-alike cmp o (span_of p) R (span_of q) S h.0.0 r) ∙ i) (sym (is_within-alike cmp o (span_of l) (span_of p) (span_of m) (span_of q) k.0.0 h.0.0) ∙ j) (sym (is_within-alike cmp o (span_of p) (span_of l) (span_of q) (span_of m) h.0.0 k.0.0) ∙ n),
+    between (sym (is_within-alike cmp o (span_of p) R (span_of q) S h.0.0 r) ∙ i)
+        (sym (is_within-alike cmp o (span_of l) (span_of p) (span_of m) (span_of q) k.0.0 h.0.0) ∙ j)
+        (sym (is_within-alike cmp o (span_of p) (span_of l) (span_of q) (span_of m) h.0.0 k.0.0) ∙ n),
     gap_mark-alike cmp o (gap_start R last) (gap_end cmp p (l ∷ L)) (gap_start S end) (gap_end cmp q (m ∷ M)) (gap_start-alike cmp R S last end r e) (gap_end-alike p q (l ∷ L) (m ∷ M) h.0 k),
     h.1,
     k,
@@ -224,7 +233,12 @@ module _ {K D : Type 0} (cmp : K → K → Ordering) (o : IsTotalOrder cmp) wher
         Q2,
         M2,
         agrees (sym (is_within-alike cmp o s R t S h.0.0 r) ∙ i) (sym (is_within-alike cmp o (span_of l) s (span_of m) t k.0.0 h.0.0) ∙ j) (sym last_same.1 ∙ d ∙ h.0.1) w' v',
-        (h.0.0, marks-append cmp inner marks _ _ same (marks-append cmp (bad_marks cmp (front_within cmp s P')) (bad_marks cmp (front_within cmp t Q1)) after more (bad_marks-alike (front_within cmp s P') (front_within cmp t Q1) (front-alike s t h.0.0 P' Q1 hp)) same')),
+        (
+          h.0.0,
+          marks-append cmp inner marks _ _ same
+              (marks-append cmp (bad_marks cmp (front_within cmp s P')) (bad_marks cmp (front_within cmp t Q1)) after more
+              (bad_marks-alike (front_within cmp s P') (front_within cmp t Q1) (front-alike s t h.0.0 P' Q1 hp)) same'),
+        ),
         hp',
         hl',
       )
@@ -240,7 +254,12 @@ module _ {K D : Type 0} (cmp : K → K → Ordering) (o : IsTotalOrder cmp) wher
         Q2,
         M2,
         differs (sym (is_within-alike cmp o s R t S h.0.0 r) ∙ i) (sym (is_within-alike cmp o (span_of l) s (span_of m) t k.0.0 h.0.0) ∙ j) (λ f. d (last_same.1 ∙ f ∙ sym h.0.1)) w' v',
-        (h.0.0, marks-append cmp inner marks _ _ same (marks-append cmp (bad_marks cmp (front_within cmp s P')) (bad_marks cmp (front_within cmp t Q1)) after more (bad_marks-alike (front_within cmp s P') (front_within cmp t Q1) (front-alike s t h.0.0 P' Q1 hp)) same')),
+        (
+          h.0.0,
+          marks-append cmp inner marks _ _ same
+              (marks-append cmp (bad_marks cmp (front_within cmp s P')) (bad_marks cmp (front_within cmp t Q1)) after more
+              (bad_marks-alike (front_within cmp s P') (front_within cmp t Q1) (front-alike s t h.0.0 P' Q1 hp)) same'),
+        ),
         hp',
         hl',
       )
@@ -251,8 +270,17 @@ module _ {K D : Type 0} (cmp : K → K → Ordering) (o : IsTotalOrder cmp) wher
   by_walk-alike ls bs [] (q ∷ qs) xs ys h k s w = absurd k
   by_walk-alike ls bs (p ∷ ps) [] xs ys h k s w = absurd k
   by_walk-alike ls bs (p ∷ ps) (q ∷ qs) xs ys h k s (ms, P, L, bad, good, w, b, g, c) =
-      let (ns, Q1, M1, v, same, hp, hl) = walk-alike w (span_of q) None (q ∷ qs) bs k.0.0 tt k h in
-      (ns, Q1, M1, bad, good, v, merge-same cmp o (bad_of ms) (bad_of ns) bad (bad-alike cmp ms ns same) b, merge-same cmp o (good_of ms) (good_of ns) good (good-alike cmp ms ns same) g, merged-alike cmp o (pieces_left cmp bad good) xs ys s c)
+      let (ns, Q1, M1, v, same, hp, hl) = walk-alike w (span_of q) None (q ∷ qs) bs k.0.0 tt k h in (
+        ns,
+        Q1,
+        M1,
+        bad,
+        good,
+        v,
+        merge-same cmp o (bad_of ms) (bad_of ns) bad (bad-alike cmp ms ns same) b,
+        merge-same cmp o (good_of ms) (good_of ns) good (good-alike cmp ms ns same) g,
+        merged-alike cmp o (pieces_left cmp bad good) xs ys s c,
+      )
 
   -- the exact walk has one answer on the same lists
   pub one_answer-alike : (ls bs ps qs : List (Entry K D)) (xs ys : List (Span K)) → SameEntries cmp ls bs → SameEntries cmp ps qs → IsByWalk cmp ls ps xs → IsByWalk cmp bs qs ys → SameSpans cmp xs ys

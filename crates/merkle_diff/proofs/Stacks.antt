@@ -50,5 +50,6 @@ module _ {K D : Type 0} (cmp : K → K → Ordering) where
         s.3,
         met R last p l P L r.2 r.3 s.2 s.3 r.0 s.0 agree h i j r.4 s.4,
         s.5,
-        ap (λ ms. b ∷ ms) (r.6 ∙ ap (λ ms. r.0 ++ (bad_marks cmp (front_within cmp (span_of p) r.2) ++ ms)) s.6) ∙ regroup b r.0 (bad_marks cmp (front_within cmp (span_of p) r.2)) s.0 (bad_marks cmp (front_within cmp R s.2)) s.1,
+        ap (λ ms. b ∷ ms) (r.6 ∙ ap (λ ms. r.0 ++ (bad_marks cmp (front_within cmp (span_of p) r.2) ++ ms)) s.6)
+            ∙ regroup b r.0 (bad_marks cmp (front_within cmp (span_of p) r.2)) s.0 (bad_marks cmp (front_within cmp R s.2)) s.1,
       )

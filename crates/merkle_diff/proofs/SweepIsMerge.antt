@@ -39,7 +39,8 @@ module _ {K : Type 0} (cmp : K → K → Ordering) (o : IsTotalOrder cmp) where
     behind-top : (e : Border) (k : K) → Behind cmp e k top → Behind cmp e k cur.last ⊎ (Before cmp e k cur.last × Behind cmp e k s.last)
     behind-top e k h = go (upto cmp s.last cur.last) (part cmp o e k cur.last) h
       where
-        go : (t : Bool) → Before cmp e k cur.last ⊎ Behind cmp e k cur.last → Behind cmp e k (if t then cur.last else s.last) → Behind cmp e k cur.last ⊎ (Before cmp e k cur.last × Behind cmp e k s.last)
+        go : (t : Bool) → Before cmp e k cur.last ⊎ Behind cmp e k cur.last → Behind cmp e k (if t then cur.last else s.last) → Behind cmp e k cur.last
+            ⊎ (Before cmp e k cur.last × Behind cmp e k s.last)
         go t (inr b) h = inl b
         go true (inl b) h = inl h
         go false (inl b) h = inr (b, h)
@@ -83,14 +84,18 @@ module _ {K : Type 0} (cmp : K → K → Ordering) (o : IsTotalOrder cmp) where
       ends = those End (map (λ t. t.last) ys) m.ends;
     }
       where
-        those : (e : Border) (ks : List K) → AreThose cmp (map (bound e) (grown cur s ∷ ss)) (Free cmp e (grown cur s ∷ ss)) ks → AreThose cmp (map (bound e) (cur ∷ s ∷ ss)) (Free cmp e (cur ∷ s ∷ ss)) ks
-        those e ks = those-again cmp o e (grown cur s ∷ ss) (cur ∷ s ∷ ss) ks (ordered-grown ss d) d (λ k. in-grown k ss) (λ k. within-grown (record { first = k; last = k }) ss) (free-more e ss) (free-less e ss)
+        those : (e : Border) (ks : List K) → AreThose cmp (map (bound e) (grown cur s ∷ ss)) (Free cmp e (grown cur s ∷ ss)) ks
+            → AreThose cmp (map (bound e) (cur ∷ s ∷ ss)) (Free cmp e (cur ∷ s ∷ ss)) ks
+        those e ks = those-again cmp o e (grown cur s ∷ ss) (cur ∷ s ∷ ss) ks (ordered-grown ss d) d (λ k. in-grown k ss)
+            (λ k. within-grown (record { first = k; last = k }) ss) (free-more e ss) (free-less e ss)
 
   -- ---- a range that ends before all others begin
 
   module _ (cur : Span K) (ts : List (Span K)) (ordered : IsOrdered cmp cur) (gap : AllByRecursion (λ t. Below cmp cur.last t.first × IsOrdered cmp t) ts) where
     above : (e : Border) → AllByRecursion (λ j. Below cmp cur.last j) (map (bound e) ts)
-    above e = each-mapped (bound e) (λ j. Below cmp cur.last j) ts (each-with (λ t. Below cmp cur.last t.first × IsOrdered cmp t) (λ t. Below cmp cur.last (bound e t)) ts (λ t b. low_up cmp o cur.last t.first (bound e t) b.0 (bound-in cmp o e t b.1).0) gap)
+    above e = each-mapped (bound e) (λ j. Below cmp cur.last j) ts
+        (each-with (λ t. Below cmp cur.last t.first × IsOrdered cmp t) (λ t. Below cmp cur.last (bound e t)) ts
+        (λ t b. low_up cmp o cur.last t.first (bound e t) b.0 (bound-in cmp o e t b.1).0) gap)
 
     cur-free : (e : Border) → Free cmp e (cur ∷ ts) (bound e cur)
     cur-free e = (
@@ -113,7 +118,11 @@ module _ {K : Type 0} (cmp : K → K → Ordering) (o : IsTotalOrder cmp) where
             (λ k h. inr (any-with (λ j. Below cmp cur.last j) (λ j. Same cmp k j × Free cmp e ts j) (λ j. Same cmp k j × Free cmp e (cur ∷ ts) j) (map (bound e) ts)
             (λ j b g. (g.0, ((λ a. not_both cmp o j cur.last (across-in cmp o e j cur a).1 b), g.1))) (above e) h)) m.sound,
       );
-      complete = ((λ h. inl (same-self cmp o (bound e cur))), each-with (λ j. Free cmp e ts j → AnyByRecursion (Same cmp j) ks) (λ j. Free cmp e (cur ∷ ts) j → AnyByRecursion (Same cmp j) (bound e cur ∷ ks)) (map (bound e) ts) (λ j f h. inr (f h.1)) m.complete);
+      complete = (
+        (λ h. inl (same-self cmp o (bound e cur))),
+        each-with (λ j. Free cmp e ts j → AnyByRecursion (Same cmp j) ks) (λ j. Free cmp e (cur ∷ ts) j → AnyByRecursion (Same cmp j) (bound e cur ∷ ks))
+            (map (bound e) ts) (λ j f h. inr (f h.1)) m.complete,
+      );
     }
 
     merge-apart : (ys : List (Span K)) → IsMerge cmp ts ys → IsMerge cmp (cur ∷ ts) (cur ∷ ys)
@@ -133,16 +142,19 @@ module _ {K : Type 0} (cmp : K → K → Ordering) (o : IsTotalOrder cmp) where
       sweep-by cur [] a = ends cur [] [] tt none
       sweep-by cur (t ∷ ts) a = go (upto cmp t.first cur.last) refl (sweep-by (grown cur t) ts (a.0.1, a.1.1)) (sweep-by t ts a.1)
         where
-          go : (b : Bool) → upto cmp t.first cur.last ≡ b → P (grown cur t ∷ ts) (sweep cmp (grown cur t) ts) → P (t ∷ ts) (sweep cmp t ts) → P (cur ∷ t ∷ ts) (if b then sweep cmp (grown cur t) ts else (cur ∷ sweep cmp t ts))
+          go : (b : Bool) → upto cmp t.first cur.last ≡ b → P (grown cur t ∷ ts) (sweep cmp (grown cur t) ts) → P (t ∷ ts) (sweep cmp t ts)
+              → P (cur ∷ t ∷ ts) (if b then sweep cmp (grown cur t) ts else (cur ∷ sweep cmp t ts))
           go true e p q = grows cur t ts (sweep cmp (grown cur t) ts) (by_upto cmp o t.first cur.last e) a.0.0 p
           go false e p q =
               let l = by_above cmp o t.first cur.last e in
               ends cur (t ∷ ts) (sweep cmp t ts) (l, each-with (λ x. Upto cmp t.first x.first) (λ x. Below cmp cur.last x.first) ts (λ x u. low_up cmp o cur.last t.first x.first l u) a.1.0) q
 
   pub swept-ordered : (ss : List (Span K)) → IsAscendingByStart cmp ss → AllByRecursion (IsOrdered cmp) ss → AllByRecursion (IsOrdered cmp) (sweep_of cmp ss)
-  swept-ordered = swept-by (λ ss out. AllByRecursion (IsOrdered cmp) ss → AllByRecursion (IsOrdered cmp) out) (λ d. d) (λ cur s ss out j a f d. f (ordered-grown cur s j a ss d)) (λ cur ts out b f d. (d.0, f d.1))
+  swept-ordered = swept-by (λ ss out. AllByRecursion (IsOrdered cmp) ss → AllByRecursion (IsOrdered cmp) out) (λ d. d)
+      (λ cur s ss out j a f d. f (ordered-grown cur s j a ss d)) (λ cur ts out b f d. (d.0, f d.1))
 
   pub swept-merge : (ss : List (Span K)) → IsAscendingByStart cmp ss → AllByRecursion (IsOrdered cmp) ss → IsMerge cmp ss (sweep_of cmp ss)
   swept-merge = swept-by (λ ss out. AllByRecursion (IsOrdered cmp) ss → IsMerge cmp ss out) (λ d. none-merged cmp)
       (λ cur s ss out j a f d. merge-grown cur s j a ss out d (f (ordered-grown cur s j a ss d)))
-      (λ cur ts out b f d. merge-apart cur ts d.0 (each-both (λ t. Below cmp cur.last t.first) (IsOrdered cmp) (λ t. Below cmp cur.last t.first × IsOrdered cmp t) ts (λ t u i. (u, i)) b d.1) out (f d.1))
+      (λ cur ts out b f d. merge-apart cur ts d.0
+      (each-both (λ t. Below cmp cur.last t.first) (IsOrdered cmp) (λ t. Below cmp cur.last t.first × IsOrdered cmp t) ts (λ t u i. (u, i)) b d.1) out (f d.1))

@@ -33,7 +33,8 @@ module _ {K : Type 0} (cmp : K → K → Ordering) (o : IsTotalOrder cmp) where
 
   -- the pieces of a range are within it
   one-within : (g s : Span K) → AllByRecursion (λ t. Upto cmp s.first t.first × Upto cmp t.last s.last) (cut_one cmp g s)
-  one-within g s = each-cut cmp o (λ t. Upto cmp s.first t.first × Upto cmp t.last s.last) g s (up_self cmp o s.first, up_self cmp o s.last) (λ m b. (up_self cmp o s.first, m.0)) (λ m b. (m.1, up_self cmp o s.last))
+  one-within g s = each-cut cmp o (λ t. Upto cmp s.first t.first × Upto cmp t.last s.last) g s (up_self cmp o s.first, up_self cmp o s.last)
+      (λ m b. (up_self cmp o s.first, m.0)) (λ m b. (m.1, up_self cmp o s.last))
 
   piece-touches : (a b : K) → Touches cmp (piece cmp a b)
   piece-touches a b = go (below cmp a b)
@@ -47,7 +48,8 @@ module _ {K : Type 0} (cmp : K → K → Ordering) (o : IsTotalOrder cmp) where
     where
       go : (t : Bool) → Touches cmp (if t then (piece cmp s.first g.first ++ piece cmp g.last s.last) else (s ∷ []))
       go true = touches-append (piece cmp s.first g.first) (piece cmp g.last s.last) (piece-touches s.first g.first) (piece-touches g.last s.last)
-          (each-piece cmp o (λ s'. AllByRecursion (λ t. Upto cmp s'.last t.first) (piece cmp g.last s.last)) s.first g.first (λ b. each-piece cmp o (λ t. Upto cmp g.first t.first) g.last s.last (λ c. d)))
+          (each-piece cmp o (λ s'. AllByRecursion (λ t. Upto cmp s'.last t.first) (piece cmp g.last s.last)) s.first g.first
+          (λ b. each-piece cmp o (λ t. Upto cmp g.first t.first) g.last s.last (λ c. d)))
       go false = (tt, tt)
 
   pub flat-touches : (g : Span K) (ss : List (Span K)) → IsOrdered cmp g → Touches cmp ss → Touches cmp (flat_map (cut_one cmp g) ss)
@@ -61,4 +63,5 @@ module _ {K : Type 0} (cmp : K → K → Ordering) (o : IsTotalOrder cmp) where
       after : (e : K) (ts : List (Span K)) → AllByRecursion (λ t. Upto cmp e t.first) ts → AllByRecursion (λ t. Upto cmp e t.first) (flat_map (cut_one cmp g) ts)
       after e [] h = tt
       after e (t ∷ ts) h = each-append (λ x. Upto cmp e x.first) (cut_one cmp g t) (flat_map (cut_one cmp g) ts)
-          (each-with (λ x. Upto cmp t.first x.first × Upto cmp x.last t.last) (λ x. Upto cmp e x.first) (cut_one cmp g t) (λ x w. up_up cmp o e t.first x.first h.0 w.0) (one-within g t)) (after e ts h.1)
+          (each-with (λ x. Upto cmp t.first x.first × Upto cmp x.last t.last) (λ x. Upto cmp e x.first) (cut_one cmp g t)
+          (λ x w. up_up cmp o e t.first x.first h.0 w.0) (one-within g t)) (after e ts h.1)

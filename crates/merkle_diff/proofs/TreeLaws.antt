@@ -39,7 +39,8 @@ module _ {K : Type 0} (cmp : K → K → Ordering) (o : IsTotalOrder cmp) where
 
 module _ {K D : Type 0} (cmp : K → K → Ordering) (o : IsTotalOrder cmp) where
   -- no later entry holds b, where a is within b
-  no-holders : (a b : Entry K D) (L : List (Entry K D)) → EntryWithin cmp a b → AllByRecursion (λ x. ¬ (EntryWithin cmp a x)) L → (after_holders cmp (span_of b) L ≡ L) × (last_holder cmp (span_of b) a L ≡ a)
+  no-holders : (a b : Entry K D) (L : List (Entry K D)) → EntryWithin cmp a b → AllByRecursion (λ x. ¬ (EntryWithin cmp a x)) L
+      → (after_holders cmp (span_of b) L ≡ L) × (last_holder cmp (span_of b) a L ≡ a)
   no-holders a b [] v n = (refl, refl)
   no-holders a b (x ∷ L) v n = rw (not_within cmp o (span_of b) (span_of x) (λ w. n.0 (up_up cmp o x.first b.first a.first w.0 v.0, up_up cmp o a.last b.last x.last v.1 w.1))) (refl, refl)
 
@@ -77,8 +78,10 @@ module _ {K D : Type 0} (cmp : K → K → Ordering) (o : IsTotalOrder cmp) wher
           no x =
               let s = same_by cmp o (span_of a2) (span_of b2) q.0 in
               let m : Meets cmp (span_of a2) (span_of a) = (
-                up_up cmp o a2.first b2.first a.last (same_up cmp o a2.first b2.first s.0) (up_up cmp o b2.first b2.last a.last d.0 (up_up cmp o b2.last b.last a.last x.1 (same_down cmp o a.last b.last e.1))),
-                up_up cmp o a.first b2.first a2.last (up_up cmp o a.first b.first b2.first (same_up cmp o a.first b.first e.0) x.0) (up_up cmp o b2.first b2.last a2.last d.0 (same_down cmp o a2.last b2.last s.1)),
+                up_up cmp o a2.first b2.first a.last (same_up cmp o a2.first b2.first s.0)
+                    (up_up cmp o b2.first b2.last a.last d.0 (up_up cmp o b2.last b.last a.last x.1 (same_down cmp o a.last b.last e.1))),
+                up_up cmp o a.first b2.first a2.last (up_up cmp o a.first b.first b2.first (same_up cmp o a.first b.first e.0) x.0)
+                    (up_up cmp o b2.first b2.last a2.last d.0 (same_down cmp o a2.last b2.last s.1)),
               ) in
               let f = sym (to_meets cmp o (span_of a2) (span_of a) m) ∙ not-or (meets cmp (span_of a2) (span_of a)) (list_any (meets cmp (span_of a2)) seen) q.1 in cc
 
@@ -111,10 +114,13 @@ module _ {K D : Type 0} (cmp : K → K → Ordering) (o : IsTotalOrder cmp) wher
           let v : EntryWithin cmp a b = (same_down cmp o a.first b.first e.0, same_up cmp o a.last b.last e.1) in
           let x = inv-into cmp w (to_within cmp o (span_of b) R i.0) (to_within cmp o (span_of a) (span_of b) v) in
           let h = no-holders a b L v n.0 in
-          let t = tail seen R a b L P P' L' x.0 x.1 x.2 x.3 x.4 e d.1 (subst (λ z. Walk cmp (span_of b) None (if x.0 then after_within cmp (span_of b) P else P) z x.1 x.3 x.4) h.0 x.6) x.7 (rec x.2) in (
+          let t = tail seen R a b L P P' L' x.0 x.1 x.2 x.3 x.4 e d.1
+          (subst (λ z. Walk cmp (span_of b) None (if x.0 then after_within cmp (span_of b) P else P) z x.1 x.3 x.4) h.0 x.6) x.7 (rec x.2) in (
             (λ g. subst (AnyByRecursion (λ m. m ≡ Good (span_of b))) (sym x.8) (inl (good x.0 (agree-by x.0 x.5 (ap (λ z. z.digest) h.1 ∙ g))))),
             each-with (Spared x.2) (Spared ms) (leading_from cmp (span_of a ∷ seen) L P)
-                (λ pr f g. subst (AnyByRecursion (λ m. m ≡ Good (span_of pr.1))) (sym x.8) (inr (any-right (λ m. m ≡ Good (span_of pr.1)) x.1 (bad_marks cmp (front_within cmp (span_of b) x.3) ++ x.2) (any-right (λ m. m ≡ Good (span_of pr.1)) (bad_marks cmp (front_within cmp (span_of b) x.3)) x.2 (f g))))) t,
+                (λ pr f g. subst (AnyByRecursion (λ m. m ≡ Good (span_of pr.1))) (sym x.8)
+                (inr (any-right (λ m. m ≡ Good (span_of pr.1)) x.1 (bad_marks cmp (front_within cmp (span_of b) x.3) ++ x.2)
+                (any-right (λ m. m ≡ Good (span_of pr.1)) (bad_marks cmp (front_within cmp (span_of b) x.3)) x.2 (f g))))) t,
           )
         where
           good : (t : Bool) → t ≡ true → (if t then Good (span_of b) else Bad (span_of b)) ≡ Good (span_of b)
@@ -135,7 +141,8 @@ module _ {K D : Type 0} (cmp : K → K → Ordering) (o : IsTotalOrder cmp) wher
   none-spared : (found : List (Span K)) (run : List (Entry K D × Entry K D)) → found ≡ [] → AllByRecursion (SparedKeys found) run
   none-spared found run e = each-all (SparedKeys found) run (λ pr g k i h. subst (IsCovered cmp k) e h)
 
-  run-in : (A : Entry K D) (seen : List (Span K)) (L P : List (Entry K D)) → AllByRecursion (λ x. EntryWithin cmp x A) L → AllByRecursion (λ pr. EntryWithin cmp pr.0 A × SameSpan cmp (span_of pr.0) (span_of pr.1)) (leading_from cmp seen L P)
+  run-in : (A : Entry K D) (seen : List (Span K)) (L P : List (Entry K D)) → AllByRecursion (λ x. EntryWithin cmp x A) L
+      → AllByRecursion (λ pr. EntryWithin cmp pr.0 A × SameSpan cmp (span_of pr.0) (span_of pr.1)) (leading_from cmp seen L P)
   run-in A seen [] P h = tt
   run-in A seen (a ∷ L) [] h = tt
   run-in A seen (a ∷ L) (b ∷ P) h = go (same_span cmp (span_of a) (span_of b) && not (list_any (meets cmp (span_of a)) seen)) refl (run-in A (span_of a ∷ seen) L P h.1)
@@ -156,7 +163,9 @@ module _ {K D : Type 0} (cmp : K → K → Ordering) (o : IsTotalOrder cmp) wher
     all-agree (true, inner, after, P1, L1, j, v, u, e) t =
         let i = inv-empty cmp (subst (λ z. Walk cmp (span_of b) None z (after_holders cmp (span_of b) ls) inner P1 L1) (all-after (span_of b) ps tp.0) v) in
         let k = inv-empty cmp (subst (λ z. Walk cmp (span_of b) (Some (span_of b)) (after_within cmp (span_of b) z) L1 after P' L') i.1 u) in
-        let m : ms ≡ Good (span_of b) ∷ [] = e ∙ (ap (λ z. Good (span_of b) ∷ (z ++ (bad_marks cmp (front_within cmp (span_of b) P1) ++ after))) i.0 ∙ (ap (λ z. Good (span_of b) ∷ (bad_marks cmp (front_within cmp (span_of b) z) ++ after)) i.1 ∙ ap (λ z. Good (span_of b) ∷ z) k.0)) in
+        let m : ms ≡ Good (span_of b) ∷ [] = e ∙
+        (ap (λ z. Good (span_of b) ∷ (z ++ (bad_marks cmp (front_within cmp (span_of b) P1) ++ after))) i.0
+        ∙ (ap (λ z. Good (span_of b) ∷ (bad_marks cmp (front_within cmp (span_of b) z) ++ after)) i.1 ∙ ap (λ z. Good (span_of b) ∷ z) k.0)) in
         no-found cmp o bad good found (subst (λ z. IsMerge cmp (bad_of z) bad) m mb) c
 
     met-spared : EntryWithin cmp a b → Into cmp (span_of b) b a ps ls P' L' ms → AllByRecursion (SparedKeys found) (leading_from cmp [] ls ps)
@@ -167,7 +176,8 @@ module _ {K D : Type 0} (cmp : K → K → Ordering) (o : IsTotalOrder cmp) wher
       where
         one : (pr : Entry K D × Entry K D) → Spared inner pr → SparedKeys found pr
         one pr f g k i h =
-            let y = subst (AnyByRecursion (λ m. m ≡ Good (span_of pr.1))) (sym e) (inr (any-left (λ m. m ≡ Good (span_of pr.1)) inner (bad_marks cmp (front_within cmp (span_of b) P1) ++ after) (f g))) in
+            let y = subst (AnyByRecursion (λ m. m ≡ Good (span_of pr.1))) (sym e)
+            (inr (any-left (λ m. m ≡ Good (span_of pr.1)) inner (bad_marks cmp (front_within cmp (span_of b) P1) ++ after) (f g))) in
             let z = merge-holds cmp o (span_of pr.1) (good_of ms) good (good-ordered cmp o (a ∷ ls) b ps found d ms P' L' bad good w mb mg c) mg (in-good cmp o (span_of pr.1) ms y) in
             any-get (λ q. ¬ (IsInside cmp k q)) (IsWithin cmp (span_of pr.1)) ⊥ good
             (λ q n v. n (up_low cmp o q.first pr.1.first k v.0 i.0, low_up cmp o k pr.1.last q.last i.1 v.1))
@@ -182,7 +192,8 @@ module _ {K D : Type 0} (cmp : K → K → Ordering) (o : IsTotalOrder cmp) wher
         each-with (λ pr. EntryWithin cmp pr.0 a × SameSpan cmp (span_of pr.0) (span_of pr.1)) (SparedKeys found) (leading_from cmp [] ls ps)
         (λ pr v g k i h. no pr v k i (in-same cmp o k found (record { first = b.first; last = lesser cmp a.first b.last } ∷ []) (table.before x y) h)) (run-in a [] ls ps tl.0)
       where
-        no : (pr : Entry K D × Entry K D) → EntryWithin cmp pr.0 a × SameSpan cmp (span_of pr.0) (span_of pr.1) → (k : K) → IsInside cmp k (span_of pr.1) → IsCovered cmp k (record { first = b.first; last = lesser cmp a.first b.last } ∷ []) → ⊥
+        no : (pr : Entry K D × Entry K D) → EntryWithin cmp pr.0 a × SameSpan cmp (span_of pr.0) (span_of pr.1) → (k : K) → IsInside cmp k (span_of pr.1)
+            → IsCovered cmp k (record { first = b.first; last = lesser cmp a.first b.last } ∷ []) → ⊥
         no pr v k i (inl h) = not_both cmp o k a.first (up_up cmp o k (lesser cmp a.first b.last) a.first h.1 (lesser-below cmp o a.first b.last))
             (up_low cmp o a.first pr.1.first k (up_up cmp o a.first pr.0.first pr.1.first v.0.0 (same_up cmp o pr.0.first pr.1.first v.1.0)) i.0)
         no pr v k i (inr h) = h

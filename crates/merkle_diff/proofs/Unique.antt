@@ -18,7 +18,8 @@ module _ {K : Type 0} (cmp : K → K → Ordering) (o : IsTotalOrder cmp) where
   below-some : (j k : K) (js : List K) → AllByRecursion (λ x. Below cmp j x) js → AnyByRecursion (Same cmp k) js → Below cmp j k
   below-some j k js a h = any-get (λ x. Below cmp j x) (Same cmp k) (Below cmp j k) js (λ x b e. low_up cmp o j x k b (same_down cmp o k x e)) a h
 
-  first-same : (k j : K) (ks js : List K) → AllByRecursion (λ x. Below cmp k x) ks → AllByRecursion (λ x. Below cmp j x) js → AnyByRecursion (Same cmp k) (j ∷ js) → AnyByRecursion (Same cmp j) (k ∷ ks) → Same cmp k j
+  first-same : (k j : K) (ks js : List K) → AllByRecursion (λ x. Below cmp k x) ks → AllByRecursion (λ x. Below cmp j x) js
+      → AnyByRecursion (Same cmp k) (j ∷ js) → AnyByRecursion (Same cmp j) (k ∷ ks) → Same cmp k j
   first-same k j ks js a b (inl e) h = e
   first-same k j ks js a b (inr m) (inl e) = same_back cmp o j k e
   first-same k j ks js a b (inr m) (inr n) = absurd (not_both cmp o k j (low_is_up cmp o k j (below-some k j ks a n)) (below-some j k js b m))
@@ -74,7 +75,8 @@ module _ {K : Type 0} (cmp : K → K → Ordering) (o : IsTotalOrder cmp) where
   pub holds-same : (x : Span K) (xs ys : List (Span K)) → SameSpans cmp xs ys → AnyByRecursion (IsWithin cmp x) xs → AnyByRecursion (IsWithin cmp x) ys
   holds-same x [] ys h i = absurd i
   holds-same x (s ∷ xs) [] h i = absurd h
-  holds-same x (s ∷ xs) (t ∷ ys) h (inl i) = inl (up_up cmp o t.first s.first x.first (same_down cmp o s.first t.first h.0.0) i.0, up_up cmp o x.last s.last t.last i.1 (same_up cmp o s.last t.last h.0.1))
+  holds-same x (s ∷ xs) (t ∷ ys) h (inl i) =
+      inl (up_up cmp o t.first s.first x.first (same_down cmp o s.first t.first h.0.0) i.0, up_up cmp o x.last s.last t.last i.1 (same_up cmp o s.last t.last h.0.1))
   holds-same x (s ∷ xs) (t ∷ ys) h (inr i) = inr (holds-same x xs ys h.1 i)
 
   pub in-same : (k : K) (xs ys : List (Span K)) → SameSpans cmp xs ys → IsCovered cmp k xs → IsCovered cmp k ys

@@ -27,7 +27,8 @@ good_of-append (Bad s ∷ xs) ys = good_of-append xs ys
 good_of-append (Good s ∷ xs) ys = ap (λ t. s ∷ t) (good_of-append xs ys)
 
 -- marks that were added to a list, and more of them
-more : {K : Type 0} (of : List (Mark K) → List (Span K)) → ((xs ys : List (Mark K)) → of (xs ++ ys) ≡ of xs ++ of ys) → (X X' : List (Span K)) (ms ns : List (Mark K)) → X' ≡ X ++ of ms → X' ++ of ns ≡ X ++ of (ms ++ ns)
+more : {K : Type 0} (of : List (Mark K) → List (Span K)) → ((xs ys : List (Mark K)) → of (xs ++ ys) ≡ of xs ++ of ys)
+    → (X X' : List (Span K)) (ms ns : List (Mark K)) → X' ≡ X ++ of ms → X' ++ of ns ≡ X ++ of (ms ++ ns)
 more of append X X' ms ns h = ap (λ t. t ++ of ns) h ∙ append_assoc X (of ms) (of ns) ∙ ap (λ t. X ++ t) (sym (append ms ns))
 
 -- the opened ranges, the innermost first
@@ -52,7 +53,8 @@ module _ {I J K : Type 0} {o e p : _} (cmp : K → K → Ordering) (steps : I �
   abbrev pub Goes : List (Span K) → Span K → Option (Span K) → Marks K o e p → Lookahead I (PageRange K o e p) → Lookahead J (PageRange K o e p) → Type 0
   Goes opened R last M l q = LeadsBoth steps peer_steps l0 p0 l q (Going cmp outer (spans M0.bad.items) (spans M0.good.items) opened R last (spans M.bad.items) (spans M.good.items))
 
-  abbrev Done : Span K → K → Marks K o e p → Marks K o e p → Lookahead I (PageRange K o e p) → Lookahead J (PageRange K o e p) → Lookahead I (PageRange K o e p) → Lookahead J (PageRange K o e p) → Type 0
+  abbrev Done : Span K → K → Marks K o e p → Marks K o e p → Lookahead I (PageRange K o e p) → Lookahead J (PageRange K o e p)
+      → Lookahead I (PageRange K o e p) → Lookahead J (PageRange K o e p) → Type 0
   Done R from M M' l q l' q' = LeadsBoth steps peer_steps l q l' q' (Ends cmp R from (λ m. Marked M m M'))
 
   pub goes-in : (opened : List (Span K)) (R s : Span K) (last : Option (Span K)) (from : K) (M M' : Marks K o e p) (l l' : Lookahead I (PageRange K o e p)) (q q' : Lookahead J (PageRange K o e p))
@@ -74,7 +76,8 @@ module _ {I J K : Type 0} {o e p : _} (cmp : K → K → Ordering) (steps : I �
             ),
       )
 
-  pub goes-out : (opened : List (Span K)) (O R : Span K) (last : Option (Span K)) (from : K) (M M' M'' : Marks K o e p) (l l' : Lookahead I (PageRange K o e p)) (q q' q'' : Lookahead J (PageRange K o e p))
+  pub goes-out : (opened : List (Span K)) (O R : Span K) (last : Option (Span K)) (from : K) (M M' M'' : Marks K o e p)
+      (l l' : Lookahead I (PageRange K o e p)) (q q' q'' : Lookahead J (PageRange K o e p))
       → gap_start R last ≡ from → Goes (O ∷ opened) R last M l q → Done R from M M' l q l' q'
       → Leads peer_steps q' q'' (λ qs ps. (ps ≡ after_within cmp R qs) × Marked M' (bad_marks cmp (front_within cmp R qs)) M'')
       → Goes opened O (Some R) M'' l' q''
@@ -89,7 +92,9 @@ module _ {I J K : Type 0} {o e p : _} (cmp : K → K → Ordering) (steps : I �
         a.2,
         a.3,
         λ m P2 L2 h.
-            let v = a.4 (f.0 ++ (fr ++ m)) P2 L2 (closes cmp opened O R last (entries r.1) (entries r.0) (entries u.0) (entries ls) P2 L2 f.0 m f.2 (subst (λ z. Rest cmp opened O (Some R) z (entries ls) m P2 L2) u.2.0 h)) in (
+            let v = a.4 (f.0 ++ (fr ++ m)) P2 L2
+            (closes cmp opened O R last (entries r.1) (entries r.0) (entries u.0) (entries ls) P2 L2 f.0 m f.2
+            (subst (λ z. Rest cmp opened O (Some R) z (entries ls) m P2 L2) u.2.0 h)) in (
               v.0,
               more bad_of bad_of-append (spans M'.bad.items) (spans M''.bad.items) fr m u.2.1.0 ∙ more bad_of bad_of-append (spans M.bad.items) (spans M'.bad.items) f.0 (fr ++ m) f.1.0 ∙ v.1,
               more good_of good_of-append (spans M'.good.items) (spans M''.good.items) fr m u.2.1.1 ∙ more good_of good_of-append (spans M.good.items) (spans M'.good.items) f.0 (fr ++ m) f.1.1 ∙ v.2,

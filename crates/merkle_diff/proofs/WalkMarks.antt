@@ -64,21 +64,28 @@ module _ {K D : Type 0} (cmp : K → K → Ordering) (o : IsTotalOrder cmp) wher
   front_marks p [] = tt
   front_marks p (x ∷ P) = go (is_within cmp (span_of x) p) refl (front_marks p P)
     where
-      go : (t : Bool) → is_within cmp (span_of x) p ≡ t → MarksWithin cmp o p (bad_marks cmp (front_within cmp p P)) → MarksWithin cmp o p (bad_marks cmp (if t then (x ∷ front_within cmp p P) else []))
+      go : (t : Bool) → is_within cmp (span_of x) p ≡ t → MarksWithin cmp o p (bad_marks cmp (front_within cmp p P))
+          → MarksWithin cmp o p (bad_marks cmp (if t then (x ∷ front_within cmp p P) else []))
       go true e k = (within_by cmp o (span_of x) p e, k)
       go false e k = tt
 
-  joined : (R p : Span K) (front : List (Entry K D)) (inner after : List (Mark K)) → IsWithin cmp p R → MarksWithin cmp o p inner → MarksWithin cmp o R after → MarksWithin cmp o R (inner ++ (bad_marks cmp (front_within cmp p front) ++ after))
+  joined : (R p : Span K) (front : List (Entry K D)) (inner after : List (Mark K)) → IsWithin cmp p R → MarksWithin cmp o p inner → MarksWithin cmp o R after
+      → MarksWithin cmp o R (inner ++ (bad_marks cmp (front_within cmp p front) ++ after))
   joined R p front inner after h i a =
       each-append (λ m. IsWithin cmp (span_marked m) R) inner (bad_marks cmp (front_within cmp p front) ++ after) (wider cmp o R p inner h i)
       (each-append (λ m. IsWithin cmp (span_marked m) R) (bad_marks cmp (front_within cmp p front)) after (wider cmp o R p (bad_marks cmp (front_within cmp p front)) h (front_marks p front)) a)
 
-  pub walk_marks : {R : Span K} {last : Option (Span K)} {P L P' L' : List (Entry K D)} {ms : List (Mark K)} → Walk cmp R last P L ms P' L' → BeginsIn cmp o R last → AllOrdered P → MarksWithin cmp o R ms × AllOrdered P'
+  pub walk_marks : {R : Span K} {last : Option (Span K)} {P L P' L' : List (Entry K D)} {ms : List (Mark K)} → Walk cmp R last P L ms P' L'
+      → BeginsIn cmp o R last → AllOrdered P → MarksWithin cmp o R ms × AllOrdered P'
   walk_marks no_peer b d = (tt, d)
   walk_marks (outside h) b d = (tt, d)
   walk_marks (held h i j) b d = (tt, d.1)
   walk_marks {R} {last} (no_local {p = p} h) b d = (gap_within cmp o R (gap_start R last) (gap_end cmp p []) b (within_by cmp o (span_of p) R h).1, d.1)
-  walk_marks {R} {last} (between {p = p} {l = l} {L = L} h i j) b d = (gap_within cmp o R (gap_start R last) (gap_end cmp p (l ∷ L)) b (up_up cmp o (gap_end cmp p (l ∷ L)) p.last R.last (gap_ends p (l ∷ L)) (within_by cmp o (span_of p) R h).1), d.1)
+  walk_marks {R} {last} (between {p = p} {l = l} {L = L} h i j) b d = (
+    gap_within cmp o R (gap_start R last) (gap_end cmp p (l ∷ L)) b
+        (up_up cmp o (gap_end cmp p (l ∷ L)) p.last R.last (gap_ends p (l ∷ L)) (within_by cmp o (span_of p) R h).1),
+    d.1,
+  )
   walk_marks {R} (agrees {p = p} {P = P} {P' = P'} {inner = inner} {after = after} h i j w v) b d =
       let n = walk_marks w (up_self cmp o p.first) (each-after cmp (λ e. IsOrdered cmp (span_of e)) (span_of p) P d.1) in
       let r = within_by cmp o (span_of p) R h in

@@ -53,11 +53,14 @@ module _ {I J K : Type 0} {o e p : _} (cmp : K → K → Ordering) (steps : I �
           d,
           subst (λ z. Walk cmp R last (entry x ∷ entries ps) (entries ls) (between_marks cmp from z l.head) (entries ps) (entries ls)) e
               (subst (λ z. Walk cmp R last (entry x ∷ entries ps) (entries ls) (between_marks cmp from (span_of (entry x)) z) (entries ps) (entries ls)) (sym f)
-              (ends-by cmp R last from x (entries ps) ls g h (subst (λ z. head_is (λ r. is_within cmp (span_of (entry r)) (span_of (entry x))) z ≡ false) f (subst (λ z. head_is (λ r. is_within cmp (span_of (entry r)) z) l.head ≡ false) (sym e) k)))),
+              (ends-by cmp R last from x (entries ps) ls g h
+              (subst (λ z. head_is (λ r. is_within cmp (span_of (entry r)) (span_of (entry x))) z ≡ false) f
+              (subst (λ z. head_is (λ r. is_within cmp (span_of (entry r)) z) l.head ≡ false) (sym e) k)))),
         ),
       )
 
-  module _ (l l1 l2 : Lookahead I (PageRange K o e p)) (p0 p1 p2 : Lookahead J (PageRange K o e p)) (R : Span K) (from : K) (Did : List (Mark K) → Type 0) (x f : PageRange K o e p) (d : PageDigest) (agree : Bool) where
+  module _ (l l1 l2 : Lookahead I (PageRange K o e p)) (p0 p1 p2 : Lookahead J (PageRange K o e p)) (R : Span K) (from : K) (Did : List (Mark K) → Type 0)
+      (x f : PageRange K o e p) (d : PageDigest) (agree : Bool) where
     -- where local's next range is within s and the queues have come after the fronts of s, the walk goes into s
     abbrev GoesInto : Span K → Type 0
     GoesInto s = is_within cmp (span_of (entry f)) s ≡ true

@@ -12,14 +12,14 @@ left_by None n = 0
 left_by (Some _) n = n + 1
 
 -- no more items than this are left
-abbrev pub left_of : {I X : Type 0} → (I → Count) → Lookahead I X → ℕ
-left_of left q = left_by q.head (size (left q.rest))
+abbrev pub items_left : {I X : Type 0} → (I → Count) → Lookahead I X → ℕ
+items_left left q = left_by q.head (size (left q.rest))
 
 -- the items `xs` come, the head first, and then the end
-abbrev pub Leaves : {I X : Type 0} → (I → Option X → I → Type 0) → Lookahead I X → List X → Type 0
-Leaves steps q [] = q.head ≡ None
-Leaves {I} {X} steps q (x ∷ xs) = (q.head ≡ Some x) × (next : Lookahead I X) × steps q.rest next.head next.rest × Leaves steps next xs
+abbrev pub LeavesItems : {I X : Type 0} → (I → Option X → I → Type 0) → Lookahead I X → List X → Type 0
+LeavesItems steps q [] = q.head ≡ None
+LeavesItems {I} {X} steps q (x ∷ xs) = (q.head ≡ Some x) × (next : Lookahead I X) × steps q.rest next.head next.rest × LeavesItems steps next xs
 
 -- no more items are left than before, and fewer where something came of it
 abbrev pub ComesNearer : {I X Y : Type 0} → (I → Count) → Lookahead I X → Lookahead I X → Option Y → Type 0
-ComesNearer left old new r = MatchOption r (left_of left new ≤ left_of left old) (λ _. left_of left new < left_of left old)
+ComesNearer left old new r = MatchOption r (items_left left new ≤ items_left left old) (λ _. items_left left new < items_left left old)

@@ -9,7 +9,7 @@ use Rattle.merkle_diff.specs.declared.page_range.PageRange.{PageRange}
 use Rattle.key_order.specs.Interval.{Span, is_within}
 use Rattle.merkle_diff.specs.Entry.{Entry, span_of}
 use Rattle.key_order.specs.Order.{upto, below}
-use Rattle.merkle_diff.specs.Lookahead.{Leaves}
+use Rattle.merkle_diff.specs.Lookahead.{LeavesItems}
 use Rattle.merkle_diff.specs.Answers.{ComesOf, FirstsMayAnswer}
 use Rattle.merkle_diff.specs.DiffRange.{span, spans, AddsSpans}
 use Rattle.merkle_diff.specs.PageRange.{entry, entries}
@@ -67,21 +67,21 @@ MarksGapBefore cmp from range locals old new = Marked old (between_marks cmp fro
 -- whatever the queue leaves now, it left before some items that relate to them
 abbrev pub Leads : {I K : Type 0} {o e p : _} → (I → Option (PageRange K o e p) → I → Type 0) → Lookahead I (PageRange K o e p) → Lookahead I (PageRange K o e p)
     → (List (Entry K PageDigest) → List (Entry K PageDigest) → Type 0) → Type 0
-Leads {I} {K} {o} {e} {p} steps old new R = (ps : List (PageRange K o e p)) → Leaves steps new ps → (qs : List (PageRange K o e p)) × Leaves steps old qs × R (entries qs) (entries ps)
+Leads {I} {K} {o} {e} {p} steps old new R = (ps : List (PageRange K o e p)) → LeavesItems steps new ps → (qs : List (PageRange K o e p)) × LeavesItems steps old qs × R (entries qs) (entries ps)
 
 -- both queues, and the marks between
 abbrev pub LeadsBoth : {I J K : Type 0} {o e p : _} → (I → Option (PageRange K o e p) → I → Type 0) → (J → Option (PageRange K o e p) → J → Type 0)
     → Lookahead I (PageRange K o e p) → Lookahead J (PageRange K o e p) → Lookahead I (PageRange K o e p) → Lookahead J (PageRange K o e p)
     → (List (Entry K PageDigest) → List (Entry K PageDigest) → List (Entry K PageDigest) → List (Entry K PageDigest) → Type 0) → Type 0
 LeadsBoth {I} {J} {K} {o} {e} {p} steps peer_steps locals peers locals' peers' R =
-    (ls : List (PageRange K o e p)) (ps : List (PageRange K o e p)) → Leaves steps locals' ls → Leaves peer_steps peers' ps
-    → (ks : List (PageRange K o e p)) × (qs : List (PageRange K o e p)) × Leaves steps locals ks × Leaves peer_steps peers qs × R (entries ks) (entries qs) (entries ls) (entries ps)
+    (ls : List (PageRange K o e p)) (ps : List (PageRange K o e p)) → LeavesItems steps locals' ls → LeavesItems peer_steps peers' ps
+    → (ks : List (PageRange K o e p)) × (qs : List (PageRange K o e p)) × LeavesItems steps locals ks × LeavesItems peer_steps peers qs × R (entries ks) (entries qs) (entries ls) (entries ps)
 
 -- x comes of all that both queues leave
 abbrev pub LeavesBoth : {I J K X : Type 0} {o e p : _} → (I → Option (PageRange K o e p) → I → Type 0) → (J → Option (PageRange K o e p) → J → Type 0)
     → Lookahead I (PageRange K o e p) → Lookahead J (PageRange K o e p)
     → (List (Entry K PageDigest) → List (Entry K PageDigest) → X → Type 0) → X → Type 0
-LeavesBoth steps peer_steps locals peers = ComesOf (Leaves steps locals) (Leaves peer_steps peers)
+LeavesBoth steps peer_steps locals peers = ComesOf (LeavesItems steps locals) (LeavesItems peer_steps peers)
 
 module _ {K D : Type 0} (cmp : K → K → Ordering) where
   -- the walk of R ends, with the marks m

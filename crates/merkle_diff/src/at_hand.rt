@@ -13,7 +13,7 @@ use std::alloc::{AllocError, Global};
 
 /// The ranges of keys that `local` may ask of `peer`, two vectors, as [`diff`](crate::diff) returns them, and at its cost.
 ///
-/// ```rust crates/diff_tests/src/shown.rt
+/// ```rust crates/merkle_diff_tests/src/shown.rt
 /// let mut theirs = Vec::new(alloc);
 /// theirs.push(PageRange::new(&1, &5, digest(2)))?;
 /// let found = diff_lists(alloc, Vec::new(alloc), theirs)?;
@@ -39,7 +39,7 @@ pub fn diff_lists<'p, K: Ord>(
 /// The ranges of keys that `local` may ask of `peer`, two slices, as [`diff`](crate::diff) returns them, and at its cost. It copies one
 /// page range after the other, and takes no memory for that.
 ///
-/// ```rust crates/diff_tests/src/shown.rt
+/// ```rust crates/merkle_diff_tests/src/shown.rt
 /// let local = [PageRange::new(&1, &4, digest(1))];
 /// let peer = [PageRange::new(&1, &5, digest(2))];
 /// let found = diff_slices(alloc, &local, &peer)?;

@@ -10,7 +10,7 @@ use std::alloc::{AllocError, Global};
 /// Ranges of keys that are known to be inconsistent, and ranges that are known to be consistent. A key strictly inside a consistent
 /// range is not asked for, whatever else is known of it.
 ///
-/// ```rust crates/diff_tests/src/shown.rt
+/// ```rust crates/merkle_diff_tests/src/shown.rt
 /// let mut builder = DiffListBuilder::new(alloc);
 /// builder.inconsistent(&1, &5)?;
 /// builder.consistent(&1, &2)?;

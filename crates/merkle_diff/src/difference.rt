@@ -18,7 +18,7 @@ use std::alloc::{AllocError, Global};
 /// The ranges of keys that `local` may ask of `peer`, so that its keys become the peer's too: ascending, each with its least and its
 /// greatest key, no two of which meet. The page ranges may be any, nested, equal, crossing or unordered.
 ///
-/// ```rust crates/diff_tests/src/shown.rt
+/// ```rust crates/merkle_diff_tests/src/shown.rt
 /// let local = [
 ///     PageRange::new(&1, &4, digest(1)),
 ///     PageRange::new(&1, &2, digest(2)),

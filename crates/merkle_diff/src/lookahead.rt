@@ -1,7 +1,7 @@
 //! An iterator with its next item.
 ghost use Rattle.std.specs.Iterator.{IsFinite};
 ghost use Rattle.std.specs.Prelude.{◌≡◌, ◌<◌, List, IfSome, IfNone};
-ghost use Rattle.merkle_diff.specs.Lookahead.{CanGoOn, Leaves, left_of};
+ghost use Rattle.merkle_diff.specs.Lookahead.{CanGoOn, LeavesItems, items_left};
 
 /// An iterator whose next item was taken already.
 #[derive(Drop)]
@@ -28,7 +28,7 @@ pub fn take_head<I: Iterator<Item = X>, X: Drop>(queue: &mut Lookahead<I, X>) ->
     ensures steps { IfSome queue.old.head (λ _. I.next_gives queue.old.rest queue.new.head queue.new.rest) }
     ensures ended { IfNone queue.old.head (queue.new ≡ queue.old) }
     ensures goes { CanGoOn I.can_next I.remaining queue.new }
-    ensures nearer { IfSome queue.old.head (λ _. left_of I.remaining queue.new < left_of I.remaining queue.old) }
+    ensures nearer { IfSome queue.old.head (λ _. items_left I.remaining queue.new < items_left I.remaining queue.old) }
 {
     match queue.head.take() {
         Some(item) => {
@@ -42,7 +42,7 @@ pub fn take_head<I: Iterator<Item = X>, X: Drop>(queue: &mut Lookahead<I, X>) ->
 /// Takes what is left to the end.
 pub fn drain<I: Iterator<Item = X>, X: Drop>(mut queue: Lookahead<I, X>)
     requires { CanGoOn I.can_next I.remaining queue }
-    ensures { (xs : List X) × Leaves I.next_gives queue xs }
+    ensures { (xs : List X) × LeavesItems I.next_gives queue xs }
 {
     'items: while let Some(_) = take_head(&mut queue) {}
 }

@@ -20,7 +20,7 @@ use std::marker::Model;
 /// The page ranges of a tree at one point in time, with keys of their own: the tree can change while a snapshot of it is kept,
 /// sent to a peer, or compared with another by [`diff_snapshots`](crate::diff_snapshots).
 ///
-/// ```rust crates/diff_tests/src/shown.rt
+/// ```rust crates/merkle_diff_tests/src/shown.rt
 /// let snapshot = PageRangeSnapshot::from_owned(alloc, ranges)?;
 /// let copy = snapshot.try_clone()?;
 /// assert!(rt; copy == snapshot);

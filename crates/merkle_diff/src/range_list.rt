@@ -11,7 +11,7 @@ use std::marker::Model;
 /// Ranges in any order, which become one list of ranges that don't meet. A contract sees the list of their spans, in the order in which
 /// they were inserted.
 ///
-/// ```rust crates/diff_tests/src/shown.rt
+/// ```rust crates/merkle_diff_tests/src/shown.rt
 /// let mut list = RangeList::new(alloc);
 /// list.insert(&12, &15)?;
 /// list.insert(&2, &8)?;

@@ -5,7 +5,7 @@ ghost use Rattle.key_order.specs.Interval.{is_within};
 ghost use Rattle.merkle_diff.specs.Entry.{span_of};
 ghost use Rattle.merkle_diff.specs.DiffRange.{span};
 ghost use Rattle.merkle_diff.specs.PageRange.{entry};
-ghost use Rattle.merkle_diff.specs.Lookahead.{CanGoOn, ComesNearer, left_of};
+ghost use Rattle.merkle_diff.specs.Lookahead.{CanGoOn, ComesNearer, items_left};
 ghost use Rattle.merkle_diff.specs.Turn.{Leads, LeadsBoth, LeavesBoth, Marked, MarksGapBefore, MarksWalk, MarksWithin};
 ghost use Rattle.merkle_diff.specs.Turn.{HasWalked, TakesAgreed, TakesHolders, TakesTurn, gap_end_at, head_is, head_may_answer};
 ghost use Rattle.merkle_diff.specs.Walk.{after_within, mark_of};
@@ -68,7 +68,7 @@ where
     I: Iterator<Item = PageRange<'p, K>>,
     requires { CanGoOn I.can_next I.remaining queue.old }
     ensures goes { CanGoOn I.can_next I.remaining queue.new }
-    ensures no_more { left_of I.remaining queue.new ≤ left_of I.remaining queue.old }
+    ensures no_more { items_left I.remaining queue.new ≤ items_left I.remaining queue.old }
     ensures leads { Leads I.next_gives queue.old queue.new (λ qs ps. ps ≡ after_within K.cmp (span outer.entry) qs) }
 {
     'front: while head_is_within(queue, &outer) {
@@ -87,7 +87,7 @@ where
     I: Iterator<Item = PageRange<'p, K>>,
     requires { CanGoOn I.can_next I.remaining queue.old }
     ensures goes { OnOk result (CanGoOn I.can_next I.remaining queue.new) }
-    ensures no_more { OnOk result (left_of I.remaining queue.new ≤ left_of I.remaining queue.old) }
+    ensures no_more { OnOk result (items_left I.remaining queue.new ≤ items_left I.remaining queue.old) }
     ensures leads { OnOk result (Leads I.next_gives queue.old queue.new (MarksWithin K.cmp outer.entry marks.old marks.new)) }
 {
     'front: while head_is_within(queue, &outer) {
@@ -176,7 +176,7 @@ where
     J: Iterator<Item = PageRange<'p, K>>,
     requires { CanGoOn J.can_next J.remaining peers.old }
     ensures goes { OnOk result (CanGoOn J.can_next J.remaining peers.new) }
-    ensures no_more { OnOk result (left_of J.remaining peers.new ≤ left_of J.remaining peers.old) }
+    ensures no_more { OnOk result (items_left J.remaining peers.new ≤ items_left J.remaining peers.old) }
     ensures leads { OnOk result (Leads J.next_gives peers.old peers.new (TakesAgreed K.cmp (span range.entry) agrees)) }
     ensures marked { OnOk result (Marked marks.old (mark_of agrees (span range.entry) ∷ []) marks.new) }
 {

@@ -14,7 +14,7 @@ use std::num::NonZeroU8;
 /// good hash function is on level 1 or above with a chance of about one in 16 (Auvolat and Taïani). It reads the digest up to its
 /// first byte that isn't zero.
 ///
-/// ```rust crates/digest_tests/src/shown.rt
+/// ```rust crates/merkle_digest_tests/src/shown.rt
 /// let digest = Digest::new([0x00, 0x10, 0x00, 0x11]);
 /// assert_eq!(rt; level(&digest, default_level_base()), 3);
 /// ```

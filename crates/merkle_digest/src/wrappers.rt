@@ -169,7 +169,7 @@ impl fmt::Display for PageDigest {
 
 /// The digest of a value that a tree holds under a key: `N` bytes. It prints as a [`Digest`] does.
 ///
-/// ```rust crates/digest_tests/src/shown.rt
+/// ```rust crates/merkle_digest_tests/src/shown.rt
 /// let digest = ValueDigest::new(hasher.hash(&[0u8, 1, 2]));
 /// assert_eq!(rt;
 ///     *digest.as_bytes(),

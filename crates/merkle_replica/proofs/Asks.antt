@@ -45,9 +45,11 @@ module _ {K V H : Type 0} (laws : Laws K V H) (o : IsTotalOrder laws.cmp) where
   shaped : (t : State K H) → IsSound laws.cmp laws.key_digest laws.bytes_of t → IsTreeShaped laws.cmp (ranges_of t.format laws.bytes_of t.root)
   shaped t s = tree_shaped laws.cmp o (λ k. level_of (laws.key_digest t.hasher k) t.base) t.format laws.bytes_of t.root s.canonical s.ascending
 
-  pub answer_for : (local peer : Contents K V H) (ls ps : List (Entry K (List ℕ))) (found own : List (Span K)) → SameMap laws.cmp (λ d e. d ≡ e) (map_of local.tree) (tree_map laws (side local)) → SameMap laws.cmp (λ d e. d ≡ e) (map_of peer.tree) (tree_map laws (side peer))
+  pub answer_for : (local peer : Contents K V H) (ls ps : List (Entry K (List ℕ))) (found own : List (Span K))
+      → SameMap laws.cmp (λ d e. d ≡ e) (map_of local.tree) (tree_map laws (side local)) → SameMap laws.cmp (λ d e. d ≡ e) (map_of peer.tree) (tree_map laws (side peer))
       → IsSound laws.cmp laws.key_digest laws.bytes_of local.tree → IsSound laws.cmp laws.key_digest laws.bytes_of peer.tree
-      → ls ≡ ranges_of local.tree.format laws.bytes_of local.tree.root → ps ≡ ranges_of peer.tree.format laws.bytes_of peer.tree.root → IsAnswer laws.cmp ls ps found → SameSpans laws.cmp found own → IsAnswerFor laws (side local) (side peer) own
+      → ls ≡ ranges_of local.tree.format laws.bytes_of local.tree.root → ps ≡ ranges_of peer.tree.format laws.bytes_of peer.tree.root
+      → IsAnswer laws.cmp ls ps found → SameSpans laws.cmp found own → IsAnswerFor laws (side local) (side peer) own
   answer_for local peer ls ps found own kl kp sl sp e f d same =
       record {
         local_list = ls;
@@ -55,12 +57,14 @@ module _ {K V H : Type 0} (laws : Laws K V H) (o : IsTotalOrder laws.cmp) where
         of_local = (local.tree.root, (sl.canonical, kl), e);
         of_peer = (peer.tree.root, (sp.canonical, kp), f);
         interval_laws = difference-same laws.cmp o ls ps found own same d.interval_laws;
-        laws_on_trees = spares-same laws.cmp o ls ps found own same (d.laws_on_trees (subst (IsTreeShaped laws.cmp) (sym e) (shaped local.tree sl)) (subst (IsTreeShaped laws.cmp) (sym f) (shaped peer.tree sp)));
+        laws_on_trees = spares-same laws.cmp o ls ps found own same
+            (d.laws_on_trees (subst (IsTreeShaped laws.cmp) (sym e) (shaped local.tree sl)) (subst (IsTreeShaped laws.cmp) (sym f) (shaped peer.tree sp)));
         exact_walk = by_walk-alike laws.cmp o ls ls ps ps found own (same_entries-own laws.cmp o ls) (same_entries-own laws.cmp o ps) same d.exact_walk;
       }
 
   -- what `diff` answers to a list that came is an answer to it, with bounds of its own
-  pub answer_to : (local : Contents K V H) (ls ps theirs : List (Entry K (List ℕ))) (found own : List (Span K)) → SameMap laws.cmp (λ d e. d ≡ e) (map_of local.tree) (tree_map laws (side local)) → IsSound laws.cmp laws.key_digest laws.bytes_of local.tree
+  pub answer_to : (local : Contents K V H) (ls ps theirs : List (Entry K (List ℕ))) (found own : List (Span K))
+      → SameMap laws.cmp (λ d e. d ≡ e) (map_of local.tree) (tree_map laws (side local)) → IsSound laws.cmp laws.key_digest laws.bytes_of local.tree
       → ls ≡ ranges_of local.tree.format laws.bytes_of local.tree.root → ps ≡ theirs → IsAnswer laws.cmp ls ps found → SameSpans laws.cmp found own → IsAnswerTo laws (side local) theirs own
   answer_to local ls ps theirs found own kl sl e f d same =
       subst (λ qs. IsAnswerTo laws (side local) qs own) f

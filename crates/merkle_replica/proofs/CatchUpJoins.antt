@@ -59,7 +59,8 @@ module _ {K V H : Type 0} (laws : Laws K V H) (o : IsTotalOrder laws.cmp) (local
   lacked_there [] a = tt
   lacked_there (k ∷ ks) a = (present_from laws.cmp o (laws.value_digest peer.hasher) peer.rows k (subst IsPresent (sym a.0.1) tt), lacked_there ks a.1)
 
-  module _ (eq : IsEquivalence laws.eq) (j : IsJoining laws.eq laws.join) (keys : List K) (copies : List (K × V)) (up : IsMap laws.cmp peer.rows) (ascending : IsAscending laws.cmp keys) (found : HasFound laws local peer keys)
+  module _ (eq : IsEquivalence laws.eq) (j : IsJoining laws.eq laws.join) (keys : List K) (copies : List (K × V)) (up : IsMap laws.cmp peer.rows)
+      (ascending : IsAscending laws.cmp keys) (found : HasFound laws local peer keys)
       (are : AreCopies laws.cmp laws.eq peer.rows keys copies) where
     abbrev wanted : List (K × V)
     wanted = rows_in laws.cmp (points keys) peer.rows
@@ -87,7 +88,8 @@ module _ {K V H : Type 0} (laws : Laws K V H) (o : IsTotalOrder laws.cmp) (local
           some = positive done some;
           not_all = omega (arith, few, len);
           joins = join_same laws.cmp o laws.eq eq laws.join j local.rows (take done copies) (take done wanted) after (take_same laws.cmp o (λ x y. laws.eq x y ≡ true) done copies wanted copied)
-              (gathers_map laws.cmp o laws.eq eq laws.join j local.rows (take done copies) after (map_taken laws.cmp o copies done (copies_map laws.cmp o laws.eq peer.rows keys copies ascending are)) h.gathers);
+              (gathers_map laws.cmp o laws.eq eq laws.join j local.rows (take done copies) after
+              (map_taken laws.cmp o copies done (copies_map laws.cmp o laws.eq peer.rows keys copies ascending are)) h.gathers);
         }
       where
         positive : (n : ℕ) → (n ≡ 0 → ⊥) → 1 ≤ n
@@ -124,7 +126,8 @@ module _ {K V H : Type 0} (laws : Laws K V H) (o : IsTotalOrder laws.cmp) (local
       go (j ∷ ks) (inr a) = inr (go ks a)
 
   -- a catch-up leaves the join of both
-  pub all_joined : IsEquivalence laws.eq → IsJoining laws.eq laws.join → (keys : List K) (after : List (K × V)) → IsFaithful laws local peer → IsCatchUp laws local peer keys after → IsJoin laws.cmp laws.eq laws.join local.rows peer.rows after
+  pub all_joined : IsEquivalence laws.eq → IsJoining laws.eq laws.join → (keys : List K) (after : List (K × V)) → IsFaithful laws local peer
+      → IsCatchUp laws local peer keys after → IsJoin laws.cmp laws.eq laws.join local.rows peer.rows after
   all_joined eq j keys after faith c = record {
     ascending = c.joins.ascending;
     values = λ k.
@@ -150,11 +153,13 @@ module _ {K V H : Type 0} (laws : Laws K V H) (o : IsTotalOrder laws.cmp) (local
               let never : None ≡ Some (laws.value_digest peer.hasher b) = sym own ∙ s in
               absurd (cc)
           go (inl s) (Some a) e =
-              let own : get laws.cmp (tree_map laws local) k ≡ Some (laws.value_digest local.hasher a) = get_digests laws.cmp o (laws.value_digest local.hasher) local.rows k ∙ ap (option_map (laws.value_digest local.hasher)) e in
+              let own : get laws.cmp (tree_map laws local) k ≡ Some (laws.value_digest local.hasher a) =
+              get_digests laws.cmp o (laws.value_digest local.hasher) local.rows k ∙ ap (option_map (laws.value_digest local.hasher)) e in
               inr (faith.same_values k a b e f (some_is _ _ (sym own ∙ s)))
 
 -- what has joined a join of it and another is that join
-pub join_back : {K V : Type 0} (cmp : K → K → Ordering) (eq : V → V → Bool) (e : IsEquivalence eq) (join : V → V → V) (j : IsJoining eq join) (a b mid after : List (K × V)) → IsJoin cmp eq join a b mid → IsJoin cmp eq join b mid after → IsJoin cmp eq join a b after
+pub join_back : {K V : Type 0} (cmp : K → K → Ordering) (eq : V → V → Bool) (e : IsEquivalence eq) (join : V → V → V) (j : IsJoining eq join)
+    (a b mid after : List (K × V)) → IsJoin cmp eq join a b mid → IsJoin cmp eq join b mid after → IsJoin cmp eq join a b after
 join_back cmp eq e join j a b mid after p q = record {
   ascending = q.ascending;
   values = λ k.
@@ -164,5 +169,6 @@ join_back cmp eq e join j a b mid after p q = record {
       on eq e join j (get cmp after k) (joined join y m) (joined join x y) (q.values k)
       (on eq e join j (joined join y m) (joined join y (joined join x y)) (joined join x y) (cong eq e join j y y m (joined join x y) (same eq e join j y) (p.values k))
       (on eq e join j (joined join y (joined join x y)) (joined join (joined join x y) y) (joined join x y) (comm eq e join j y (joined join x y))
-      (on eq e join j (joined join (joined join x y) y) (joined join x (joined join y y)) (joined join x y) (assoc eq e join j x y y) (cong eq e join j x x (joined join y y) y (same eq e join j x) (idem eq e join j y)))));
+      (on eq e join j (joined join (joined join x y) y) (joined join x (joined join y y)) (joined join x y) (assoc eq e join j x y y)
+      (cong eq e join j x x (joined join y y) y (same eq e join j x) (idem eq e join j y)))));
 }

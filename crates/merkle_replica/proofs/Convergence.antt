@@ -65,10 +65,13 @@ module _ {K V H : Type 0} (laws : Laws K V H) (o : IsTotalOrder laws.cmp) (e : I
     join_stays k = keeps_join eq e join j (is_covered cmp k n.ranges) (get cmp x k) (get cmp y k) (get cmp x' k) (takes k)
 
     rows_stay : (k : K) → IsPresent (get cmp x k) → IsPresent (get cmp x' k)
-    rows_stay k p = there eq e join j (joined join (get cmp x k) (Taken eq e join j (is_covered cmp k n.ranges) (get cmp y k))) (get cmp x' k) (back eq e join j (get cmp x' k) (joined join (get cmp x k) (Taken eq e join j (is_covered cmp k n.ranges) (get cmp y k))) (takes k)) (there_left eq e join j (get cmp x k) (Taken eq e join j (is_covered cmp k n.ranges) (get cmp y k)) p)
+    rows_stay k p = there eq e join j (joined join (get cmp x k) (Taken eq e join j (is_covered cmp k n.ranges) (get cmp y k))) (get cmp x' k)
+        (back eq e join j (get cmp x' k) (joined join (get cmp x k) (Taken eq e join j (is_covered cmp k n.ranges) (get cmp y k))) (takes k))
+        (there_left eq e join j (get cmp x k) (Taken eq e join j (is_covered cmp k n.ranges) (get cmp y k)) p)
 
     rows_from : (k : K) → IsPresent (get cmp x' k) → IsPresent (get cmp x k) ⊎ IsPresent (get cmp y k)
-    rows_from k p = go (there_one eq e join j (get cmp x k) (Taken eq e join j (is_covered cmp k n.ranges) (get cmp y k)) (there eq e join j (get cmp x' k) (joined join (get cmp x k) (Taken eq e join j (is_covered cmp k n.ranges) (get cmp y k))) (takes k) p))
+    rows_from k p = go (there_one eq e join j (get cmp x k) (Taken eq e join j (is_covered cmp k n.ranges) (get cmp y k))
+        (there eq e join j (get cmp x' k) (joined join (get cmp x k) (Taken eq e join j (is_covered cmp k n.ranges) (get cmp y k))) (takes k) p))
       where
         go : IsPresent (get cmp x k) ⊎ IsPresent (Taken eq e join j (is_covered cmp k n.ranges) (get cmp y k)) → IsPresent (get cmp x k) ⊎ IsPresent (get cmp y k)
         go (inl h) = inl h
@@ -80,7 +83,8 @@ module _ {K V H : Type 0} (laws : Laws K V H) (o : IsTotalOrder laws.cmp) (e : I
 
     -- a row in a range arrives
     arrives : (k : K) → IsCovered cmp k n.ranges → IsPresent (get cmp y k) → IsPresent (get cmp x' k)
-    arrives k i p = there eq e join j (joined join (get cmp x k) (Taken eq e join j (is_covered cmp k n.ranges) (get cmp y k))) (get cmp x' k) (back eq e join j (get cmp x' k) (joined join (get cmp x k) (Taken eq e join j (is_covered cmp k n.ranges) (get cmp y k))) (takes k))
+    arrives k i p = there eq e join j (joined join (get cmp x k) (Taken eq e join j (is_covered cmp k n.ranges) (get cmp y k))) (get cmp x' k)
+        (back eq e join j (get cmp x' k) (joined join (get cmp x k) (Taken eq e join j (is_covered cmp k n.ranges) (get cmp y k))) (takes k))
         (there_right eq e join j (get cmp x k) (Taken eq e join j (is_covered cmp k n.ranges) (get cmp y k)) (taken (is_covered cmp k n.ranges) (test_from_covered cmp o n.ranges k i)))
       where
         taken : (b : Bool) → b ≡ true → IsPresent (Taken eq e join j b (get cmp y k))
@@ -113,7 +117,9 @@ module _ {K V H : Type 0} (laws : Laws K V H) (o : IsTotalOrder laws.cmp) (e : I
       hi_digests : Hi cmp y x → Hi cmp (tree_map laws peer) (tree_map laws local)
       hi_digests hi k p = let (i, h, b) = hi k (present_from cmp o local_digest x k p) in (i, present_to cmp o peer_digest y i h, b)
 
-      absent_or_same : (k : K) (a b : Option V) → get cmp x k ≡ a → get cmp y k ≡ b → (IsPresent b → IsCovered cmp k n.ranges ⊎ SameValue (λ d c. d ≡ c) (option_map local_digest a) (option_map peer_digest b)) → (is_covered cmp k n.ranges ≡ true) ⊎ SameOrAbsent eq e join j a b
+      absent_or_same : (k : K) (a b : Option V) → get cmp x k ≡ a → get cmp y k ≡ b
+          → (IsPresent b → IsCovered cmp k n.ranges ⊎ SameValue (λ d c. d ≡ c) (option_map local_digest a) (option_map peer_digest b))
+          → (is_covered cmp k n.ranges ≡ true) ⊎ SameOrAbsent eq e join j a b
       absent_or_same k a None u v f = inr tt
       absent_or_same k None (Some b) u v f = go (f tt)
         where
@@ -129,14 +135,17 @@ module _ {K V H : Type 0} (laws : Laws K V H) (o : IsTotalOrder laws.cmp) (e : I
       brings_all : Lo cmp y x → Hi cmp y x → At x' (Join x y)
       brings_all lo hi k =
           takes_all eq e join j (is_covered cmp k n.ranges) (get cmp x k) (get cmp y k) (get cmp x' k) (takes k)
-          (absent_or_same k (get cmp x k) (get cmp y k) refl refl (λ p. subst (λ v. IsCovered cmp k n.ranges ⊎ SameValue (λ d c. d ≡ c) v (option_map peer_digest (get cmp y k))) (get_digests cmp o local_digest x k)
+          (absent_or_same k (get cmp x k) (get cmp y k) refl refl
+          (λ p. subst (λ v. IsCovered cmp k n.ranges ⊎ SameValue (λ d c. d ≡ c) v (option_map peer_digest (get cmp y k))) (get_digests cmp o local_digest x k)
           (subst (λ v. IsCovered cmp k n.ranges ⊎ SameValue (λ d c. d ≡ c) (get cmp (tree_map laws local) k) v) (get_digests cmp o peer_digest y k)
-          (found_or_same cmp o (IsPageOf cmp (laws.key_digest local.hasher) local.base) (IsPageOf cmp (laws.key_digest peer.hasher) peer.base) (page_digest local.format laws.bytes_of) (page_digest peer.format laws.bytes_of) pairs
+          (found_or_same cmp o (IsPageOf cmp (laws.key_digest local.hasher) local.base) (IsPageOf cmp (laws.key_digest peer.hasher) peer.base)
+          (page_digest local.format laws.bytes_of) (page_digest peer.format laws.bytes_of) pairs
           (tree_map laws local) (tree_map laws peer) t.answered.local_list t.answered.peer_list n.ranges is_map_x is_map_y lists_x lists_y
           (lo_digests lo) (hi_digests hi) faith.same_pages t.answered.interval_laws k (present_to cmp o peer_digest y k p)))))
 
       -- where the peer begins no higher, its keys reach around local's, or local's reach around the peer's after the pull
-      reach_by : (ls ps : List (Entry K (List ℕ))) → IsWhole cmp (tree_map laws local) ls → IsWhole cmp (tree_map laws peer) ps → IsByTable cmp ls ps n.ranges → Lo cmp y x → Hi cmp y x ⊎ (Lo cmp x' y × Hi cmp x' y)
+      reach_by : (ls ps : List (Entry K (List ℕ))) → IsWhole cmp (tree_map laws local) ls → IsWhole cmp (tree_map laws peer) ps → IsByTable cmp ls ps n.ranges
+          → Lo cmp y x → Hi cmp y x ⊎ (Lo cmp x' y × Hi cmp x' y)
       reach_by [] ps w v table lo = inl (λ k p. absurd (subst (λ m. IsPresent (get cmp m k)) (no_entry cmp o (tree_map laws local) [] w refl) (present_to cmp o local_digest x k p)))
       reach_by (a ∷ ls) [] w v table lo =
           let (i, h, b) = lo a.first (present_from cmp o local_digest x a.first (first_there cmp o (tree_map laws local) a ls w)) in
@@ -208,7 +217,8 @@ module _ {K V H : Type 0} (laws : Laws K V H) (o : IsTotalOrder laws.cmp) (e : I
   swap_at : (a b c d x : Rows) → At x (Join b c) → ((k : K) → Eq eq e join j (Join c b k) (Join a d k)) → At x (Join a d)
   swap_at a b c d x h i k = on eq e join j (get cmp x k) (Join b c k) (Join a d k) (h k) (on eq e join j (Join b c k) (Join c b k) (Join a d k) (comm eq e join j (get cmp b k) (get cmp c k)) (i k))
 
-  module _ (p q : Side K V H) (x1 y2 x3 : Rows) (q1 q2 q3 : Answer K) (t1 : IsPull laws p q q1 x1) (t2 : IsPull laws q (with_rows p x1) q2 y2) (t3 : IsPull laws (with_rows p x1) (with_rows q y2) q3 x3)
+  module _ (p q : Side K V H) (x1 y2 x3 : Rows) (q1 q2 q3 : Answer K) (t1 : IsPull laws p q q1 x1) (t2 : IsPull laws q (with_rows p x1) q2 y2)
+      (t3 : IsPull laws (with_rows p x1) (with_rows q y2) q3 x3)
       (ax : IsMap cmp p.rows) (ay : IsMap cmp q.rows) (f1 : IsFaithful laws p q) (f2 : IsFaithful laws q (with_rows p x1)) (f3 : IsFaithful laws (with_rows p x1) (with_rows q y2)) where
     abbrev x0 : Rows
     x0 = p.rows
@@ -229,12 +239,18 @@ module _ {K V H : Type 0} (laws : Laws K V H) (o : IsTotalOrder laws.cmp) (e : I
             (b, at_stays (with_rows p x1) (with_rows q y2) q3 x3 t3 (Join x0 y0) all b)
         go (inr w) =
             let b : At y2 (Join y0 x1) = brings_all q (with_rows p x1) q2 y2 t2 ay t1.joins.ascending f2 w.0 w.1 in
-            let c : At x3 (Join x1 y2) = brings_all (with_rows p x1) (with_rows q y2) q3 x3 t3 t1.joins.ascending t2.joins.ascending f3 (lo_all x1 y2 (has_right y0 x1 y2 b)) (hi_all x1 y2 (has_right y0 x1 y2 b)) in
-            (second w.0 w.1, swap_at x0 x1 y2 y0 x3 c (λ k. on eq e join j (Join y2 x1 k) (Join y0 x1 k) (Join x0 y0 k) (join_stays q (with_rows p x1) q2 y2 t2 k) (on eq e join j (Join y0 x1 k) (Join x1 y0 k) (Join x0 y0 k) (comm eq e join j (get cmp y0 k) (get cmp x1 k)) (join_stays p q q1 x1 t1 k))))
+            let c : At x3 (Join x1 y2) = brings_all (with_rows p x1) (with_rows q y2) q3 x3 t3 t1.joins.ascending t2.joins.ascending f3
+            (lo_all x1 y2 (has_right y0 x1 y2 b)) (hi_all x1 y2 (has_right y0 x1 y2 b)) in (
+              second w.0 w.1,
+              swap_at x0 x1 y2 y0 x3 c
+                  (λ k. on eq e join j (Join y2 x1 k) (Join y0 x1 k) (Join x0 y0 k) (join_stays q (with_rows p x1) q2 y2 t2 k)
+                  (on eq e join j (Join y0 x1 k) (Join x1 y0 k) (Join x0 y0 k) (comm eq e join j (get cmp y0 k) (get cmp x1 k)) (join_stays p q q1 x1 t1 k))),
+            )
 
   module _ (p q : Side K V H) (a1 b2 a3 b4 : Rows) (q1 q2 q3 q4 : Answer K)
       (t1 : IsPull laws p q q1 a1) (t2 : IsPull laws q (with_rows p a1) q2 b2) (t3 : IsPull laws (with_rows p a1) (with_rows q b2) q3 a3) (t4 : IsPull laws (with_rows q b2) (with_rows p a3) q4 b4)
-      (aa : IsMap cmp p.rows) (ab : IsMap cmp q.rows) (f1 : IsFaithful laws p q) (f2 : IsFaithful laws q (with_rows p a1)) (f3 : IsFaithful laws (with_rows p a1) (with_rows q b2)) (f4 : IsFaithful laws (with_rows q b2) (with_rows p a3)) where
+      (aa : IsMap cmp p.rows) (ab : IsMap cmp q.rows) (f1 : IsFaithful laws p q) (f2 : IsFaithful laws q (with_rows p a1))
+      (f3 : IsFaithful laws (with_rows p a1) (with_rows q b2)) (f4 : IsFaithful laws (with_rows q b2) (with_rows p a3)) where
     abbrev a : Rows
     a = p.rows
 
@@ -254,7 +270,8 @@ module _ {K V H : Type 0} (laws : Laws K V H) (o : IsTotalOrder laws.cmp) (e : I
             (swap_at a b a1 b a3 w.0 (join_stays p q q1 a1 t1), swap_at a b a1 b b4 w.1 (join_stays p q q1 a1 t1))
 
   -- from the join on nothing changes
-  then_stay : (qs : List (Answer K)) (p q : Side K V H) (x' y' : Rows) (met : List (Side K V H × Side K V H)) (f : K → Option V) → IsMap cmp p.rows → IsMap cmp q.rows → At p.rows f → At q.rows f → IsByTurns laws qs p q x' y' met
+  then_stay : (qs : List (Answer K)) (p q : Side K V H) (x' y' : Rows) (met : List (Side K V H × Side K V H)) (f : K → Option V) → IsMap cmp p.rows
+      → IsMap cmp q.rows → At p.rows f → At q.rows f → IsByTurns laws qs p q x' y' met
       → (IsMap cmp x' × At x' f) × (IsMap cmp y' × At y' f)
   then_stay [] p q x' y' met f ax ay h i (u, v, w) = ((subst (IsMap cmp) (sym u) ax, subst (λ m. At m f) (sym u) h), (subst (IsMap cmp) (sym v) ay, subst (λ m. At m f) (sym v) i))
   then_stay (n ∷ qs) p q x' y' met f ax ay h i (after, rest, w, t, more) =

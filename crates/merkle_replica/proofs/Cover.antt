@@ -68,7 +68,8 @@ module _ {K : Type 0} (cmp : K → K → Ordering) (o : IsTotalOrder cmp) where
       up_up cmp o k (last_key p.0 ps) e.last (last_bound cmp o p ps k a q) (same_down cmp o e.last (last_key p.0 ps) h.1),
     )
 
-    pub found_or_agreed : (a b : List (K × D)) (ls ps : List (Entry K P)) (found : List (Span K)) → IsMap cmp a → IsMap cmp b → IsWhole cmp a ls → IsWhole cmp b ps → Lo cmp b a → Hi cmp b a → IsByTable cmp ls ps found → (k : K) → IsPresent (get cmp b k) → IsCovered cmp k found ⊎ IsAgreed cmp ls ps k
+    pub found_or_agreed : (a b : List (K × D)) (ls ps : List (Entry K P)) (found : List (Span K)) → IsMap cmp a → IsMap cmp b → IsWhole cmp a ls
+        → IsWhole cmp b ps → Lo cmp b a → Hi cmp b a → IsByTable cmp ls ps found → (k : K) → IsPresent (get cmp b k) → IsCovered cmp k found ⊎ IsAgreed cmp ls ps k
     found_or_agreed a b ls [] found p q w v lo hi t k h = absurd (subst (λ m. IsPresent (get cmp m k)) (no_entry b [] v refl) h)
     found_or_agreed a b [] (y ∷ ys) found p q w v lo hi t k h = inl (in_whole y found t k (all_in_first b y ys q v k h))
     found_or_agreed a b (x ∷ xs) (y ∷ ys) found p q w v lo hi t k h =
@@ -103,7 +104,9 @@ module _ {K : Type 0} (cmp : K → K → Ordering) (o : IsTotalOrder cmp) where
         is_same (get cmp (pairs s) k) (get cmp (entry_rows cmp l m) k) (get_by_same cmp o (λ d e. d ≡ e) (pairs s) (entry_rows cmp l m) h k)
         ∙ get_at cmp o (λ j. is_in cmp j (span_of l)) (is_in-same cmp o (span_of l)) m k
 
-    pub same_if_agreed : (a b : List (K × D)) (ls ps : List (Entry K P)) → IsListing cmp IsPageOfA dig_a pairs a ls → IsListing cmp IsPageOfB dig_b pairs b ps → HasFaithfulPages cmp IsPageOfA IsPageOfB dig_a dig_b pairs a b → (k : K) → IsPresent (get cmp b k) → IsAgreed cmp ls ps k → SameValue (λ d e. d ≡ e) (get cmp a k) (get cmp b k)
+    pub same_if_agreed : (a b : List (K × D)) (ls ps : List (Entry K P)) → IsListing cmp IsPageOfA dig_a pairs a ls → IsListing cmp IsPageOfB dig_b pairs b ps
+        → HasFaithfulPages cmp IsPageOfA IsPageOfB dig_a dig_b pairs a b → (k : K) → IsPresent (get cmp b k) → IsAgreed cmp ls ps k
+        → SameValue (λ d e. d ≡ e) (get cmp a k) (get cmp b k)
     same_if_agreed a b ls ps u v same k h agreed =
         let (p, (t, of_b, dig_t, pairs_t), (here, some)) = any_all ps v.pages agreed in
         let (l, (s, of_a, dig_s, pairs_s), alike) = any_all ls u.pages some in
@@ -112,7 +115,10 @@ module _ {K : Type 0} (cmp : K → K → Ordering) (o : IsTotalOrder cmp) where
         (out (is_in cmp k (span_of l)) (is_in cmp k (span_of p)) (get cmp a k) (get cmp b k) None refl (test_from_in cmp o k (span_of p) here) h
         (sym (in_page a l s k pairs_s) ∙ is_same (get cmp (pairs s) k) (get cmp (pairs t) k) (get_by_same cmp o (λ d e. d ≡ e) (pairs s) (pairs t) maps k) ∙ in_page b p t k pairs_t))
 
-    pub found_or_same : (a b : List (K × D)) (ls ps : List (Entry K P)) (found : List (Span K)) → IsMap cmp a → IsMap cmp b → IsListing cmp IsPageOfA dig_a pairs a ls → IsListing cmp IsPageOfB dig_b pairs b ps → Lo cmp b a → Hi cmp b a → HasFaithfulPages cmp IsPageOfA IsPageOfB dig_a dig_b pairs a b → IsDifference cmp ls ps found → (k : K) → IsPresent (get cmp b k) → IsCovered cmp k found ⊎ SameValue (λ d e. d ≡ e) (get cmp a k) (get cmp b k)
+    pub found_or_same : (a b : List (K × D)) (ls ps : List (Entry K P)) (found : List (Span K)) → IsMap cmp a → IsMap cmp b
+        → IsListing cmp IsPageOfA dig_a pairs a ls → IsListing cmp IsPageOfB dig_b pairs b ps → Lo cmp b a → Hi cmp b a
+        → HasFaithfulPages cmp IsPageOfA IsPageOfB dig_a dig_b pairs a b → IsDifference cmp ls ps found → (k : K) → IsPresent (get cmp b k)
+        → IsCovered cmp k found ⊎ SameValue (λ d e. d ≡ e) (get cmp a k) (get cmp b k)
     found_or_same a b ls ps found p q u v lo hi same d k h = go (found_or_agreed a b ls ps found p q u.whole v.whole lo hi d.table k h)
       where
         go : IsCovered cmp k found ⊎ IsAgreed cmp ls ps k → IsCovered cmp k found ⊎ SameValue (λ d e. d ≡ e) (get cmp a k) (get cmp b k)
@@ -126,7 +132,9 @@ module _ {K : Type 0} (cmp : K → K → Ordering) (o : IsTotalOrder cmp) where
     has (Some x) (Some y) d e s = ap Some s ∙ e
 
     -- coverage
-    pub covers : (a b : List (K × D)) (ls ps : List (Entry K P)) (found : List (Span K)) → IsMap cmp a → IsMap cmp b → IsListing cmp IsPageOfA dig_a pairs a ls → IsListing cmp IsPageOfB dig_b pairs b ps → SpanHolds cmp b a → HasFaithfulPages cmp IsPageOfA IsPageOfB dig_a dig_b pairs a b → IsDifference cmp ls ps found → (k : K) (d : D) → get cmp b k ≡ Some d → ¬ (get cmp a k ≡ Some d) → IsCovered cmp k found
+    pub covers : (a b : List (K × D)) (ls ps : List (Entry K P)) (found : List (Span K)) → IsMap cmp a → IsMap cmp b → IsListing cmp IsPageOfA dig_a pairs a ls
+        → IsListing cmp IsPageOfB dig_b pairs b ps → SpanHolds cmp b a → HasFaithfulPages cmp IsPageOfA IsPageOfB dig_a dig_b pairs a b
+        → IsDifference cmp ls ps found → (k : K) (d : D) → get cmp b k ≡ Some d → ¬ (get cmp a k ≡ Some d) → IsCovered cmp k found
     covers a b ls ps found p q u v holds same diff k d e n =
         go (found_or_same a b ls ps found p q u v (lo_from_span a b p holds) (hi_from_span a b p holds) same diff k (subst IsPresent (sym e) tt))
       where

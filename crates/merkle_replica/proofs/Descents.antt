@@ -31,12 +31,14 @@ same_get cmp o a b s k = is_same (get cmp a k) (get cmp b k) (get_by_same cmp o 
     is_same (Some x) (Some y) s = ap Some s
 
 -- what one element more adds
-pub flat_step : {A B C : Type 0} (f : A → B) (g : B → List C) (xs : List A) (i : ℕ) (x : A) → i < length xs → x ≡ get_or xs i x → flat_map g (map f (take (i + 1) xs)) ≡ flat_map g (map f (take i xs)) ++ g (f x)
+pub flat_step : {A B C : Type 0} (f : A → B) (g : B → List C) (xs : List A) (i : ℕ) (x : A) → i < length xs → x ≡ get_or xs i x
+    → flat_map g (map f (take (i + 1) xs)) ≡ flat_map g (map f (take i xs)) ++ g (f x)
 flat_step f g xs i x h e =
     ap (flat_map g) (map_more f xs i x h e) ∙ flat_map-append g (map f (take i xs)) (f x ∷ []) ∙ ap (λ ys. flat_map g (map f (take i xs)) ++ ys) (append-nil (g (f x)))
 
 module _ {K V H : Type 0} (laws : Laws K V H) (local : Side K V H) where
-  sorted_more : (es : List (Item K (List ℕ))) (e : Item K (List ℕ)) (o o1 : List (Gap K)) (w w1 : List K) → AreSortedOut laws local es o w → IsSortedOut laws local e o1 w1 → AreSortedOut laws local (es ++ e ∷ []) (o ++ o1) (w ++ w1)
+  sorted_more : (es : List (Item K (List ℕ))) (e : Item K (List ℕ)) (o o1 : List (Gap K)) (w w1 : List K) → AreSortedOut laws local es o w
+      → IsSortedOut laws local e o1 w1 → AreSortedOut laws local (es ++ e ∷ []) (o ++ o1) (w ++ w1)
   sorted_more [] e o o1 w w1 (p, q) h =
       (o1, [], w1, [], h, (refl, refl), ap (λ z. z ++ o1) p ∙ sym (append-nil o1), ap (λ z. z ++ w1) q ∙ sym (append-nil w1))
   sorted_more (x ∷ es) e o o1 w w1 (a, b, c, d, f, r, p, q) h =

@@ -40,7 +40,8 @@ module _ {K V H : Type 0} (laws : Laws K V H) (a b : Side K V H) where
   equal_at faithful k (Some x) (Some y) p q s = faithful k x y p q s
 
   -- equal rows have equal digests, where each value has one by both sides
-  pub equal_digests : ((hasher : H) (x y : V) → laws.eq x y ≡ true → laws.value_digest hasher x ≡ laws.value_digest hasher y) → GiveOneDigest laws a b → (xs ys : List (K × V)) → SameMap laws.cmp (λ x y. laws.eq x y ≡ true) xs ys
+  pub equal_digests : ((hasher : H) (x y : V) → laws.eq x y ≡ true → laws.value_digest hasher x ≡ laws.value_digest hasher y) → GiveOneDigest laws a b
+      → (xs ys : List (K × V)) → SameMap laws.cmp (λ x y. laws.eq x y ≡ true) xs ys
       → SameMap laws.cmp (λ d e. d ≡ e) (digests (laws.value_digest a.hasher) xs) (digests (laws.value_digest b.hasher) ys)
   equal_digests respects one [] [] s = tt
   equal_digests respects one [] (y ∷ ys) s = absurd s
@@ -48,11 +49,14 @@ module _ {K V H : Type 0} (laws : Laws K V H) (a b : Side K V H) where
   equal_digests respects one (x ∷ xs) (y ∷ ys) s = (s.0, respects a.hasher x.1 y.1 s.1 ∙ one y.1, equal_digests respects one xs ys s.2)
 
   -- alike sides give a map's tree one root digest
-  pub one_root : AreSetAlike laws a b → (m : List (K × List ℕ)) → page_digest a.format laws.bytes_of (defined_tree (laws.key_digest a.hasher) a.base m) ≡ page_digest b.format laws.bytes_of (defined_tree (laws.key_digest b.hasher) b.base m)
+  pub one_root : AreSetAlike laws a b → (m : List (K × List ℕ))
+      → page_digest a.format laws.bytes_of (defined_tree (laws.key_digest a.hasher) a.base m) ≡ page_digest b.format laws.bytes_of
+      (defined_tree (laws.key_digest b.hasher) b.base m)
   one_root alike m = λ i. page_digest (alike.format i) laws.bytes_of (defined_tree (λ k. alike.keys k i) (alike.base i) m)
 
   -- sides whose trees have one root digest have equal rows, while digests are faithful
-  pub equal_by_root : IsTotalOrder laws.cmp → IsFaithful laws a b → IsMap laws.cmp a.rows → IsMap laws.cmp b.rows → (t u : Tree K (List ℕ)) → IsTreeOf laws.cmp (laws.key_digest a.hasher) a.base t (tree_map laws a)
+  pub equal_by_root : IsTotalOrder laws.cmp → IsFaithful laws a b → IsMap laws.cmp a.rows → IsMap laws.cmp b.rows → (t u : Tree K (List ℕ))
+      → IsTreeOf laws.cmp (laws.key_digest a.hasher) a.base t (tree_map laws a)
       → IsTreeOf laws.cmp (laws.key_digest b.hasher) b.base u (tree_map laws b) → page_digest a.format laws.bytes_of t ≡ page_digest b.format laws.bytes_of u → HaveEqualRows laws a b
   equal_by_root o faithful p q t u of_a of_b one =
       let pages = faithful.same_pages t u (t, of_a, root_in t) (u, of_b, root_in u) one in

@@ -65,9 +65,12 @@ module _ {K V : Type 0} (cmp : K → K → Ordering) (eq : V → V → Bool) (e 
       let x = get cmp m k in
       let y = get cmp n k in
       let z = at ms k in
-      on eq e join j (joined join x (joined join y z)) (joined join (joined join x y) z) (joined join y z) (back eq e join j (joined join (joined join x y) z) (joined join x (joined join y z)) (assoc eq e join j x y z))
-      (on eq e join j (joined join (joined join x y) z) (joined join (joined join y x) z) (joined join y z) (cong eq e join j (joined join x y) (joined join y x) z z (comm eq e join j x y) (same eq e join j z))
-      (on eq e join j (joined join (joined join y x) z) (joined join y (joined join x z)) (joined join y z) (assoc eq e join j y x z) (cong eq e join j y y (joined join x z) z (same eq e join j y) (takes m ms k a))))
+      on eq e join j (joined join x (joined join y z)) (joined join (joined join x y) z) (joined join y z)
+      (back eq e join j (joined join (joined join x y) z) (joined join x (joined join y z)) (assoc eq e join j x y z))
+      (on eq e join j (joined join (joined join x y) z) (joined join (joined join y x) z) (joined join y z)
+      (cong eq e join j (joined join x y) (joined join y x) z z (comm eq e join j x y) (same eq e join j z))
+      (on eq e join j (joined join (joined join y x) z) (joined join y (joined join x z)) (joined join y z) (assoc eq e join j y x z)
+      (cong eq e join j y y (joined join x z) z (same eq e join j y) (takes m ms k a))))
 
   -- one of the maps that has joined the join of all is that join
   pub join_all : (m : List (K × V)) (ms : List (List (K × V))) (b c : List (K × V)) → AnyByRecursion (λ n. n ≡ m) ms → IsJoinOf cmp eq join ms b → IsJoin cmp eq join m b c → IsJoinOf cmp eq join ms c

@@ -3,13 +3,13 @@ use Rattle.std.specs.Prelude.{◌≡◌, ℕ, List, ◌∷◌, ◌++◌, length,
 use Rattle.std.specs.List.{AllByRecursion}
 use Rattle.merkle_replica.specs.Contents.{Side}
 use Rattle.merkle_replica.specs.Faithful.{AllFaithful}
-use Rattle.merkle_replica.specs.Gossip.{IsGossip, IsJoinOf, gathering, spreading, numbered, rows_of}
+use Rattle.merkle_replica.specs.Gossip.{IsGossip, IsJoinOf, gathering, spreading, numbered, rows_of_sides}
 use Rattle.merkle_replica.specs.Laws.{Laws}
 
 module _ {K V H : Type 0} (laws : Laws K V H) (hub : Side K V H) (others : List (Side K V H)) where
   -- the side's rows are the join of all of these sides' rows
   abbrev pub HasJoined : List (Side K V H) → Side K V H → Type 0
-  HasJoined all s = IsJoinOf laws.cmp laws.eq laws.join (rows_of all) s.rows
+  HasJoined all s = IsJoinOf laws.cmp laws.eq laws.join (rows_of_sides all) s.rows
 
   -- the hub has caught up with the first i of the others, which stay
   pub record IsGathered (i : ℕ) (hub' : Side K V H) (others' : List (Side K V H)) : Type 0 where

@@ -12,7 +12,7 @@ use Rattle.key_order.proofs.ListParts.{each-append, each-before, each-at}
 use Rattle.merkle_replica.specs.CatchUp.{IsCatchUpOf, IsCatchUpRefused}
 use Rattle.merkle_replica.specs.Contents.{Side, with_rows}
 use Rattle.merkle_replica.specs.Faithful.{IsFaithful}
-use Rattle.merkle_replica.specs.Gossip.{numbered, changed, gathering, spreading, through_hub, IsJoinOf, IsGossip, StopsGossip, rows_of}
+use Rattle.merkle_replica.specs.Gossip.{numbered, changed, gathering, spreading, through_hub, IsJoinOf, IsGossip, StopsGossip, rows_of_sides}
 use Rattle.merkle_replica.proofs.HubStates.{HasJoined, IsGathered, IsSpread}
 use Rattle.merkle_replica.specs.Laws.{Laws}
 use Rattle.merkle_replica.specs.declared.catch_up.CatchUpError.{CatchUpError}
@@ -53,13 +53,15 @@ any_map f (y ∷ ys) x (inr a) = inr (any_map f ys x a)
 module _ {K V H : Type 0} (laws : Laws K V H) (hub : Side K V H) (others : List (Side K V H)) (i : ℕ) where
   -- what comes of a catch-up of the hub with the next of the others: the gathering goes on, or stops
   pub record GathersOn (h h' x : Side K V H) (T' : List (Side K V H)) : Type 0 where
-    pub goes_on : (joined : ℕ) → IsCatchUpOf laws h x joined h'.rows → (IsFaithful laws h x → IsJoin laws.cmp laws.eq laws.join h.rows x.rows h'.rows) → IsMap laws.cmp x.rows → IsGathered laws hub others (i + 1) h' T'
+    pub goes_on : (joined : ℕ) → IsCatchUpOf laws h x joined h'.rows → (IsFaithful laws h x → IsJoin laws.cmp laws.eq laws.join h.rows x.rows h'.rows)
+        → IsMap laws.cmp x.rows → IsGathered laws hub others (i + 1) h' T'
     pub stops : (fault : CatchUpError) → IsCatchUpRefused laws h x fault h'.rows → StopsGossip laws i fault (through_hub (length others)) (numbered hub (hub ∷ others)) (numbered hub (h' ∷ T'))
 
   -- the same of a catch-up of one of the others with the hub
   pub record SpreadsOn (h h' x x' : Side K V H) (T' : List (Side K V H)) : Type 0 where
     pub goes_on : (joined : ℕ) → IsCatchUpOf laws x h joined x'.rows → (IsFaithful laws x h → IsJoin laws.cmp laws.eq laws.join x.rows h.rows x'.rows) → IsSpread laws hub others (i + 1) h' T'
-    pub stops : (fault : CatchUpError) → IsCatchUpRefused laws x h fault x'.rows → StopsGossip laws (length others + i) fault (through_hub (length others)) (numbered hub (hub ∷ others)) (numbered hub (h' ∷ T'))
+    pub stops : (fault : CatchUpError) → IsCatchUpRefused laws x h fault x'.rows
+        → StopsGossip laws (length others + i) fault (through_hub (length others)) (numbered hub (hub ∷ others)) (numbered hub (h' ∷ T'))
 
 module _ {K V H : Type 0} (laws : Laws K V H) (o : IsTotalOrder laws.cmp) (e : IsEquivalence laws.eq) (j : IsJoining laws.eq laws.join) (hub : Side K V H) (others : List (Side K V H)) where
   abbrev Met : Type 0
@@ -83,13 +85,15 @@ module _ {K V H : Type 0} (laws : Laws K V H) (o : IsTotalOrder laws.cmp) (e : I
     hub_last : h' ≡ with_rows h h'.rows → T' ≡ T → (n : ℕ) → numbered hub (h' ∷ T') n ≡ changed (numbered hub (h ∷ T)) 0 (with_rows h h'.rows) n
     hub_last s t n = (λ k. numbered hub (s k ∷ t k) n) ∙ changed-list hub (h ∷ T) 0 (with_rows h h'.rows) (omega arith) n
 
-    gathers : (joined : ℕ) → h' ≡ with_rows h h'.rows → T' ≡ T → IsCatchUpOf laws h x joined h'.rows → (IsFaithful laws h x → IsJoin laws.cmp laws.eq laws.join h.rows x.rows h'.rows) → IsMap laws.cmp x.rows
+    gathers : (joined : ℕ) → h' ≡ with_rows h h'.rows → T' ≡ T → IsCatchUpOf laws h x joined h'.rows
+        → (IsFaithful laws h x → IsJoin laws.cmp laws.eq laws.join h.rows x.rows h'.rows) → IsMap laws.cmp x.rows
         → IsGathered laws hub others (i + 1) h' T'
     gathers joined s t c j' up =
         let at = there i h T x f is hub in
         let x0 : get_or others i x ≡ x = ap (λ l. get_or l i x) (sym g.stay) ∙ sym is in
         let more : take (i + 1) others ≡ take i others ++ x ∷ [] = take_more others i x (subst (λ (l : List (Side K V H)). i < length l) g.stay f) ∙ ap (λ y. take i others ++ y ∷ []) x0 in
-        let rows : rows_of (hub ∷ take (i + 1) others) ≡ rows_of (hub ∷ take i others) ++ x.rows ∷ [] = ap (λ l. hub.rows ∷ rows_of l) more ∙ ap (λ l. hub.rows ∷ l) (map-append (λ (y : Side K V H). y.rows) (take i others) (x ∷ [])) in
+        let rows : rows_of_sides (hub ∷ take (i + 1) others) ≡ rows_of_sides (hub ∷ take i others) ++ x.rows ∷ [] = ap (λ l. hub.rows ∷ rows_of_sides l) more
+        ∙ ap (λ l. hub.rows ∷ l) (map-append (λ (y : Side K V H). y.rows) (take i others) (x ∷ [])) in
         record {
           stay = t ∙ g.stay;
           met = g.met ++ (h, x) ∷ [];
@@ -101,7 +105,8 @@ module _ {K V H : Type 0} (laws : Laws K V H) (o : IsTotalOrder laws.cmp) (e : I
               let before = each-before (λ sides. IsFaithful laws sides.0 sides.1) g.met ((h, x) ∷ []) faith in
               let last = each-at (λ sides. IsFaithful laws sides.0 sides.1) g.met (h, x) [] faith in
               subst (λ ms. IsJoinOf laws.cmp laws.eq laws.join ms h'.rows) (sym rows)
-              (join_both laws.cmp laws.eq e laws.join j (rows_of (hub ∷ take i others)) (x.rows ∷ []) h.rows x.rows h'.rows (g.joins before) (alone laws.cmp laws.eq e laws.join j x.rows up) (j' last));
+              (join_both laws.cmp laws.eq e laws.join j (rows_of_sides (hub ∷ take i others)) (x.rows ∷ []) h.rows x.rows h'.rows (g.joins before)
+              (alone laws.cmp laws.eq e laws.join j x.rows up) (j' last));
         }
 
     gathering_stops : (fault : CatchUpError) → h' ≡ with_rows h h'.rows → T' ≡ T → IsCatchUpRefused laws h x fault h'.rows
@@ -127,11 +132,12 @@ module _ {K V H : Type 0} (laws : Laws K V H) (o : IsTotalOrder laws.cmp) (e : I
     stay = g.stay;
     met = g.met;
     gossip = subst (λ steps. IsGossip laws steps (numbered hub (hub ∷ others)) (numbered hub (h ∷ T)) g.met) (ap gathering q ∙ sym (append-nil (gathering (length others)))) g.gossip;
-    hub_joins = λ faith. subst (λ l. IsJoinOf laws.cmp laws.eq laws.join (rows_of (hub ∷ l)) h.rows) (take_all i others (omega arith)) (g.joins faith);
+    hub_joins = λ faith. subst (λ l. IsJoinOf laws.cmp laws.eq laws.join (rows_of_sides (hub ∷ l)) h.rows) (take_all i others (omega arith)) (g.joins faith);
     others_join = λ faith. tt;
   }
 
-  module _ (i : ℕ) (h h' : Side K V H) (T T' : List (Side K V H)) (x x' : Side K V H) (f : i < length T) (q : length T ≡ length others) (is : x ≡ get_or T i x) (g : IsSpread laws hub others i h T) where
+  module _ (i : ℕ) (h h' : Side K V H) (T T' : List (Side K V H)) (x x' : Side K V H) (f : i < length T) (q : length T ≡ length others) (is : x ≡ get_or T i x)
+      (g : IsSpread laws hub others i h T) where
     -- where the rows of one of the others changed
     other_last : h' ≡ h → x' ≡ with_rows x x'.rows → T' ≡ set T i x' → (n : ℕ) → numbered hub (h' ∷ T') n ≡ changed (numbered hub (h ∷ T)) (suc i) (with_rows x x'.rows) n
     other_last s y t n = (λ k. numbered hub (s k ∷ (t ∙ ap (set T i) y) k) n) ∙ changed-list hub (h ∷ T) (suc i) (with_rows x x'.rows) (omega arith) n
@@ -157,9 +163,11 @@ module _ {K V H : Type 0} (laws : Laws K V H) (o : IsTotalOrder laws.cmp) (e : I
         record {
           done = g.done ++ x' ∷ [];
           counted = length-append g.done (x' ∷ []) ∙ ap (λ n. n + 1) g.counted;
-          stay = t ∙ (λ l. set ((g.stay ∙ ap (λ r. g.done ++ r) k) l) (sym g.counted l) x') ∙ set-append_seam g.done x (drop (i + 1) others) x' ∙ sym (append_assoc g.done (x' ∷ []) (drop (i + 1) others));
+          stay = t ∙ (λ l. set ((g.stay ∙ ap (λ r. g.done ++ r) k) l) (sym g.counted l) x') ∙ set-append_seam g.done x (drop (i + 1) others) x'
+              ∙ sym (append_assoc g.done (x' ∷ []) (drop (i + 1) others));
           met = g.met ++ one;
-          gossip = subst (λ steps. IsGossip laws steps (numbered hub (hub ∷ others)) (numbered hub (h' ∷ T')) (g.met ++ one)) (append_assoc (gathering (length others)) (spreading i) ((suc i, 0) ∷ []) ∙ ap (λ n. gathering (length others) ++ spreading n) (sym (add-one i)))
+          gossip = subst (λ steps. IsGossip laws steps (numbered hub (hub ∷ others)) (numbered hub (h' ∷ T')) (g.met ++ one))
+              (append_assoc (gathering (length others)) (spreading i) ((suc i, 0) ∷ []) ∙ ap (λ n. gathering (length others) ++ spreading n) (sym (add-one i)))
               (subst (λ z. IsGossip laws ((gathering (length others) ++ spreading i) ++ (suc i, 0) ∷ []) (numbered hub (hub ∷ others)) (numbered hub (h' ∷ T')) (g.met ++ (z, h) ∷ [])) at
               (gossip-more laws (gathering (length others) ++ spreading i) (suc i, 0) (numbered hub (hub ∷ others)) (numbered hub (h ∷ T)) (numbered hub (h' ∷ T')) g.met joined x'.rows g.gossip
               (subst (λ z. IsCatchUpOf laws z h joined x'.rows) (sym at) c)
@@ -168,8 +176,11 @@ module _ {K V H : Type 0} (laws : Laws K V H) (o : IsTotalOrder laws.cmp) (e : I
           others_join = λ faith.
               let before = each-before (λ sides. IsFaithful laws sides.0 sides.1) g.met one faith in
               let last = each-at (λ sides. IsFaithful laws sides.0 sides.1) g.met (x, h) [] faith in
-              each-append (HasJoined laws hub others (hub ∷ others)) g.done (x' ∷ []) (g.others_join before)
-              (join_all laws.cmp laws.eq e laws.join j x.rows (rows_of (hub ∷ others)) h.rows x'.rows (any_map (λ (z : Side K V H). z.rows) (hub ∷ others) x (inr (element others i x m (sym old_one)))) (g.hub_joins before) (j' last), tt);
+              each-append (HasJoined laws hub others (hub ∷ others)) g.done (x' ∷ []) (g.others_join before) (
+                join_all laws.cmp laws.eq e laws.join j x.rows (rows_of_sides (hub ∷ others)) h.rows x'.rows
+                    (any_map (λ (z : Side K V H). z.rows) (hub ∷ others) x (inr (element others i x m (sym old_one)))) (g.hub_joins before) (j' last),
+                tt,
+              );
         }
 
     spreading_stops : (fault : CatchUpError) → h' ≡ h → x' ≡ with_rows x x'.rows → T' ≡ set T i x' → IsCatchUpRefused laws x h fault x'.rows
@@ -181,7 +192,8 @@ module _ {K V H : Type 0} (laws : Laws K V H) (o : IsTotalOrder laws.cmp) (e : I
         let a = gathering-length all in
         let b = spreading-length i in
         let count : length (gathering all ++ spreading i) ≡ all + i = length-append (gathering all) (spreading i) ∙ omega arith in
-        let steps : (gathering all ++ spreading i) ++ (suc i, 0) ∷ rest ≡ through_hub all = append_assoc (gathering all) (spreading i) ((suc i, 0) ∷ rest) ∙ ap (λ l. gathering all ++ l) (sym parted) in
+        let steps : (gathering all ++ spreading i) ++ (suc i, 0) ∷ rest ≡ through_hub all = append_assoc (gathering all) (spreading i) ((suc i, 0) ∷ rest)
+        ∙ ap (λ l. gathering all ++ l) (sym parted) in
         subst (λ l. StopsGossip laws (all + i) fault l (numbered hub (hub ∷ others)) (numbered hub (h' ∷ T'))) steps
         (subst (λ n. StopsGossip laws n fault ((gathering all ++ spreading i) ++ (suc i, 0) ∷ rest) (numbered hub (hub ∷ others)) (numbered hub (h' ∷ T'))) count
         (gossip-stops laws (gathering all ++ spreading i) (suc i, 0) rest (numbered hub (hub ∷ others)) (numbered hub (h ∷ T)) (numbered hub (h' ∷ T')) g.met fault x'.rows g.gossip

@@ -4,7 +4,8 @@ use Rattle.std.specs.Vec.Iter.{into_iter_items, into_iter_len, into_iter_steps}
 use Rattle.std.specs.declared.vec.IntoIter.{IntoIter}
 
 -- an iterator gives one more: those so far and those left are all, and this many are left
-pub one_yielded : {X Z : Type 0} (old new : IntoIter X Z) (yielded all : List X) (x : X) → into_iter_steps old (Some x) new → yielded ++ into_iter_items old ≡ all → into_iter_len old ≡ length (into_iter_items old)
+pub one_yielded : {X Z : Type 0} (old new : IntoIter X Z) (yielded all : List X) (x : X) → into_iter_steps old (Some x) new
+    → yielded ++ into_iter_items old ≡ all → into_iter_len old ≡ length (into_iter_items old)
     → ((yielded ++ x ∷ []) ++ into_iter_items new ≡ all) × (into_iter_len new ≡ length (into_iter_items new))
 one_yielded old new yielded all x (given, fewer) are many = (append_assoc yielded (x ∷ []) (into_iter_items new) ∙ ap (λ l. yielded ++ l) (sym given) ∙ are, omega (arith, ap length given))
 

@@ -50,8 +50,10 @@ module _ {K D : Type 0} where
   count-append (of_page g digest ∷ xs) ys = count-append xs ys
 
 -- a tree has as many keys as there are rows
-pub as_many : {K V H : Type 0} (laws : Laws K V H) (o : IsTotalOrder laws.cmp) (peer : Contents K V H) → SameMap laws.cmp (λ d e. d ≡ e) (pairs peer.tree.root) (tree_map laws (side peer)) → length (pairs peer.tree.root) ≡ length peer.rows
-as_many laws o peer kept = same_rows-length laws.cmp o (λ d e. d ≡ e) (pairs peer.tree.root) (tree_map laws (side peer)) kept ∙ length-map peer.rows (λ r. (r.0, laws.value_digest peer.tree.hasher r.1))
+pub as_many : {K V H : Type 0} (laws : Laws K V H) (o : IsTotalOrder laws.cmp) (peer : Contents K V H)
+    → SameMap laws.cmp (λ d e. d ≡ e) (pairs peer.tree.root) (tree_map laws (side peer)) → length (pairs peer.tree.root) ≡ length peer.rows
+as_many laws o peer kept = same_rows-length laws.cmp o (λ d e. d ≡ e) (pairs peer.tree.root) (tree_map laws (side peer)) kept
+    ∙ length-map peer.rows (λ r. (r.0, laws.value_digest peer.tree.hasher r.1))
 
 -- the nodes of pages are keys of the map
 module _ {K : Type 0} (format : PageFormat) (bytes_of : K → List ℕ) (there : Gap K → List ℕ → Bool) where
@@ -117,7 +119,8 @@ module _ {K V H : Type 0} (laws : Laws K V H) (o : IsTotalOrder laws.cmp) (local
   over_filled g t f = ap (lacking laws local peer weight g) (filled_opens laws.cmp o g t root up f)
 
   -- the gap of a page is left where the page is missing
-  one_left : (g : Gap K) (t : Tree K (List ℕ)) (gaps : List (Gap K)) (keys : List K) → Fills laws.cmp g t root → IsSortedOut laws (side local) (of_page g (page_digest peer.tree.format laws.bytes_of t)) gaps keys → left gaps ≡ total weight (in_held g (below t))
+  one_left : (g : Gap K) (t : Tree K (List ℕ)) (gaps : List (Gap K)) (keys : List K) → Fills laws.cmp g t root
+      → IsSortedOut laws (side local) (of_page g (page_digest peer.tree.format laws.bytes_of t)) gaps keys → left gaps ≡ total weight (in_held g (below t))
   one_left g t gaps keys f (none, inl (has, empty)) = ap left empty ∙ spared (there g (page_digest peer.tree.format laws.bytes_of t)) has
     where
       spared : (b : Bool) → b ≡ true → 0 ≡ total weight (if b then [] else (missing_pages peer.tree.format laws.bytes_of there g t))
@@ -132,7 +135,8 @@ module _ {K V H : Type 0} (laws : Laws K V H) (o : IsTotalOrder laws.cmp) (local
   module _ (lev : K → ℕ) (canonical : IsCanonicalRoot lev root) where
     -- of a row that stands in a gap those are left that are missing in it
     row_left : (l : ℕ) (g : Gap K) (r : Row K (List ℕ)) (gaps : List (Gap K)) (keys : List K) → IsRow lev l r → pairs_within laws.cmp g (pairs root) ≡ row_pairs r → IsMap laws.cmp (row_pairs r)
-        → ((s : Tree K (List ℕ)) → IsPageInRow s r → IsPageIn s root) → AreSortedOut laws (side local) (row_items (λ t. Some (page_digest peer.tree.format laws.bytes_of t)) g r) gaps keys → left gaps ≡ total weight (in_row g r)
+        → ((s : Tree K (List ℕ)) → IsPageInRow s r → IsPageIn s root)
+        → AreSortedOut laws (side local) (row_items (λ t. Some (page_digest peer.tree.format laws.bytes_of t)) g r) gaps keys → left gaps ≡ total weight (in_row g r)
     row_left l g (high nothing) gaps keys c all m i (p, q) = ap left p
     row_left l g (high (below t)) gaps keys c all m i (gf, gr, ko, kr, one, (none, empty), p, q) =
         ap left (p ∙ ap (λ z. gf ++ z) none ∙ append-nil gf) ∙ one_left g t gf ko (record { inside = i t (itself t); some = c.1; all = all }) one
@@ -140,7 +144,8 @@ module _ {K V H : Type 0} (laws : Laws K V H) (o : IsTotalOrder laws.cmp) (local
         ap left (p ∙ ap (λ z. z ++ gr) none)
         ∙ row_left l (part_behind g k) r gr kr c.2 (rest_all laws.cmp o peer.tree.format laws.bytes_of root up g nothing k d r all m) m.1 (λ s u. i s (inr u)) more
     row_left l g (node (below t) k d r) gaps keys c all m i (gf, gs, ko, ks, one, (gn, gr, kn, kr, (none, own), more, pn, qn), p, q) =
-        let fills : Fills laws.cmp (part_before g k) t root = record { inside = i t (inl (itself t)); some = c.0.1; all = held_all laws.cmp o peer.tree.format laws.bytes_of root up g (below t) k d r all m } in
+        let fills : Fills laws.cmp (part_before g k) t root =
+        record { inside = i t (inl (itself t)); some = c.0.1; all = held_all laws.cmp o peer.tree.format laws.bytes_of root up g (below t) k d r all m } in
         let rest = rest_all laws.cmp o peer.tree.format laws.bytes_of root up g (below t) k d r all m in
         omega (
           arith,
@@ -152,11 +157,13 @@ module _ {K V H : Type 0} (laws : Laws K V H) (o : IsTotalOrder laws.cmp) (local
         )
 
     -- a page that is opened leaves those below it
-    page_left : (g : Gap K) (t : Tree K (List ℕ)) (gaps : List (Gap K)) (keys : List K) → Fills laws.cmp g t root → AreSortedOut laws (side local) (outline g) gaps keys → weight t + left gaps ≡ lacking laws local peer weight g (Some t)
+    page_left : (g : Gap K) (t : Tree K (List ℕ)) (gaps : List (Gap K)) (keys : List K) → Fills laws.cmp g t root
+        → AreSortedOut laws (side local) (outline g) gaps keys → weight t + left gaps ≡ lacking laws local peer weight g (Some t)
     page_left g (page l c r) gaps keys f s =
         let is = ap (outline_where peer.tree.format laws.bytes_of g) (filled_opens laws.cmp o g (page l c r) root up f) in
         ap (λ n. weight (page l c r) + n)
-        (row_left l g r gaps keys (page_canonical lev (page l c r) root canonical f.inside f.some) f.all (inside_map laws.cmp o (page l c r) root f.inside up) (λ u j. page_in u (page l c r) root (inr j) f.inside)
+        (row_left l g r gaps keys (page_canonical lev (page l c r) root canonical f.inside f.some) f.all (inside_map laws.cmp o (page l c r) root f.inside up)
+        (λ u j. page_in u (page l c r) root (inr j) f.inside)
         (subst (λ xs. AreSortedOut laws (side local) xs gaps keys) is s))
 
     -- so does a round
@@ -176,14 +183,18 @@ module _ {K V H : Type 0} (laws : Laws K V H) (o : IsTotalOrder laws.cmp) (local
         )
 
     -- the whole tree leaves all that are missing
-    whole_left : (gaps : List (Gap K)) (keys : List K) → AreSortedOut laws (side local) (whole_item peer.tree.format laws.bytes_of root) gaps keys → left gaps ≡ total weight (missing_of_tree peer.tree.format laws.bytes_of there root)
+    whole_left : (gaps : List (Gap K)) (keys : List K) → AreSortedOut laws (side local) (whole_item peer.tree.format laws.bytes_of root) gaps keys
+        → left gaps ≡ total weight (missing_of_tree peer.tree.format laws.bytes_of there root)
     whole_left = by root refl
       where
-        by : (t : Tree K (List ℕ)) → t ≡ root → (gaps : List (Gap K)) (keys : List K) → AreSortedOut laws (side local) (whole_item peer.tree.format laws.bytes_of t) gaps keys → left gaps ≡ total weight (missing_of_tree peer.tree.format laws.bytes_of there t)
+        by : (t : Tree K (List ℕ)) → t ≡ root → (gaps : List (Gap K)) (keys : List K)
+            → AreSortedOut laws (side local) (whole_item peer.tree.format laws.bytes_of t) gaps keys
+            → left gaps ≡ total weight (missing_of_tree peer.tree.format laws.bytes_of there t)
         by (page l c (high h)) e gaps keys (p, q) = ap left p
         by (page l c (node h k d r)) e gaps keys (gf, gr, ko, kr, one, (none, empty), p, q) =
             let t = page l c (node h k d r) in
-            let fills : Fills laws.cmp everywhere t root = subst (λ (u : Tree K (List ℕ)). Fills laws.cmp everywhere t u) e (record { inside = itself t; some = tt; all = all_within laws.cmp (pairs t) }) in
+            let fills : Fills laws.cmp everywhere t root =
+            subst (λ (u : Tree K (List ℕ)). Fills laws.cmp everywhere t u) e (record { inside = itself t; some = tt; all = all_within laws.cmp (pairs t) }) in
             ap left (p ∙ ap (λ z. gf ++ z) none ∙ append-nil gf) ∙ one_left everywhere t gf ko fills one
 
 -- what a round opens: a page over each gap, and the nodes of these
@@ -247,7 +258,8 @@ module _ {K V H : Type 0} (laws : Laws K V H) (o : IsTotalOrder laws.cmp) (local
       fewer = omega arith;
     }
 
-    module _ (n : ℕ) (gs gaps : List (Gap K)) (keys : List K) (opened compared : ℕ) (pages : AllByRecursion (IsPageGap laws local peer n) gs) (sorted : AreSortedOut laws (side local) (outlines gs) gaps keys)
+    module _ (n : ℕ) (gs gaps : List (Gap K)) (keys : List K) (opened compared : ℕ) (pages : AllByRecursion (IsPageGap laws local peer n) gs)
+        (sorted : AreSortedOut laws (side local) (outlines gs) gaps keys)
         (counted : AreCounted laws local peer opened compared gs) where
       of_pages : total (at (λ t. 1)) gs + total (over laws local peer (λ t. 1)) gaps ≡ total (over laws local peer (λ t. 1)) gs
       of_pages = round_left laws o local peer up (λ t. 1) lev canonical n gs gaps keys pages sorted
@@ -276,7 +288,8 @@ module _ {K V H : Type 0} (laws : Laws K V H) (o : IsTotalOrder laws.cmp) (local
   abbrev is_there : Gap K → List ℕ → Bool
   is_there = has_page_over laws local
 
-  there_alike : (g h : Gap K) (t u : Tree K (List ℕ)) → SameGap laws.cmp g h → SamePages laws.cmp t u → is_there g (page_digest format laws.bytes_of t) ≡ is_there h (page_digest format laws.bytes_of u)
+  there_alike : (g h : Gap K) (t u : Tree K (List ℕ)) → SameGap laws.cmp g h → SamePages laws.cmp t u
+      → is_there g (page_digest format laws.bytes_of t) ≡ is_there h (page_digest format laws.bytes_of u)
   there_alike g h t u s q =
       ap (is_page_with local.format laws.bytes_of (page_digest format laws.bytes_of t)) (page_over-alike laws.cmp o g h s (own_tree laws local)) ∙ ap (is_there h) (one_digest t u q)
 
@@ -334,7 +347,8 @@ nodes-alike {K} cmp (page l c r) (page m e s) q = by r s q.2
 -- at the end, what was opened and compared is what was missing, in each tree of the peer's map
 module _ {K V H : Type 0} (laws : Laws K V H) (o : IsTotalOrder laws.cmp) (local peer : Contents K V H)
     (one_digest : (t u : Tree K (List ℕ)) → SamePages laws.cmp t u → page_digest peer.tree.format laws.bytes_of t ≡ page_digest peer.tree.format laws.bytes_of u)
-    (own : Tree K (List ℕ)) (same : SamePages laws.cmp peer.tree.root own) (opened compared : ℕ) (gaps : List (Gap K)) (none : gaps ≡ []) (counted : AreCounted laws local peer opened compared gaps) where
+    (own : Tree K (List ℕ)) (same : SamePages laws.cmp peer.tree.root own) (opened compared : ℕ) (gaps : List (Gap K)) (none : gaps ≡ [])
+    (counted : AreCounted laws local peer opened compared gaps) where
   abbrev in_own : List (Tree K (List ℕ))
   in_own = missing_of_tree peer.tree.format laws.bytes_of (has_page_over laws (side local)) own
 

@@ -46,7 +46,9 @@ module _ {K : Type 0} (cmp : K → K → Ordering) (o : IsTotalOrder cmp) where
   sorted_keys [] s = tt
   sorted_keys (r ∷ []) s = (tt, tt)
   sorted_keys (r ∷ q ∷ rs) s =
-      let rest = sorted_keys (q ∷ rs) (λ k d from to. subst (λ n. lower_key (get_or (q ∷ rs) n d) (get_or (q ∷ rs) k d) ≡ false) (sym (add-one k)) (subst (λ n. lower_key (get_or (r ∷ q ∷ rs) n d) (get_or (q ∷ rs) k d) ≡ false) (add-one (suc k)) (s (suc k) d (omega arith) (omega arith)))) in
+      let rest = sorted_keys (q ∷ rs)
+      (λ k d from to. subst (λ n. lower_key (get_or (q ∷ rs) n d) (get_or (q ∷ rs) k d) ≡ false) (sym (add-one k))
+      (subst (λ n. lower_key (get_or (r ∷ q ∷ rs) n d) (get_or (q ∷ rs) k d) ≡ false) (add-one (suc k)) (s (suc k) d (omega arith) (omega arith)))) in
       let here : Upto cmp r.now q.now = not_lower q.now r.now (s 0 r (omega arith) (omega arith)) in
       ((here, each-with (λ j. Upto cmp q.now j) (λ j. Upto cmp r.now j) (keys_of rs) (λ j u. up_up cmp o r.now q.now j here u) rest.0), rest)
 
@@ -138,12 +140,15 @@ module _ {K : Type 0} (cmp : K → K → Ordering) (o : IsTotalOrder cmp) where
         let k = get_or ks j d in
         let before = each_upto (keys_of ks) j k.now f (omega (arith, mapped ks)) (at ks j d h ∙ swap (keys_of ks) j d.now k.now (omega (arith, mapped ks))) in
         let t : keys_of (take i ks) ≡ keys_of (take j ks) ++ k.now ∷ [] = ap (λ n. keys_of (take n ks)) (sym e ∙ sym (add-one j)) ∙ map_more (λ x. x.now) ks j k h (get_or_default ks j d k h) in
-        subst (AllByRecursion (λ x. Upto cmp x k.now)) (sym t) (each-append (λ x. Upto cmp x k.now) (keys_of (take j ks)) (k.now ∷ []) (subst (AllByRecursion (λ x. Upto cmp x k.now)) (taken ks j) before) (same_up cmp o k.now k.now (tied_itself o k.now), tt))
+        subst (AllByRecursion (λ x. Upto cmp x k.now)) (sym t)
+        (each-append (λ x. Upto cmp x k.now) (keys_of (take j ks)) (k.now ∷ []) (subst (AllByRecursion (λ x. Upto cmp x k.now)) (taken ks j) before)
+        (same_up cmp o k.now k.now (tied_itself o k.now), tt))
       where
         swap : (xs : List K) (n : ℕ) (a b : K) → n < length xs → get_or xs n a ≡ get_or xs n b
         swap xs n a b h = get_or_default xs n a b h
 
-    pub once_step : (k : Bor K) (b : Bool) → k ≡ get_or ks i k → ((j : ℕ) (d : Bor K) → suc j ≡ i → below cmp (get_or ks j d).now (get_or ks i d).now ≡ b) → b ≡ true → IsOnceEach cmp (keys_of (take (i + 1) ks)) (once ++ k.now ∷ [])
+    pub once_step : (k : Bor K) (b : Bool) → k ≡ get_or ks i k → ((j : ℕ) (d : Bor K) → suc j ≡ i → below cmp (get_or ks j d).now (get_or ks i d).now ≡ b)
+        → b ≡ true → IsOnceEach cmp (keys_of (take (i + 1) ks)) (once ++ k.now ∷ [])
     once_step k b e above anew =
         subst (λ xs. IsOnceEach cmp xs (once ++ k.now ∷ [])) (sym (map_more (λ x. x.now) ks i k within e)) (once_new (keys_of (take i ks)) once k.now (low (eq-zero-or-pos i)) r)
       where
@@ -154,7 +159,8 @@ module _ {K : Type 0} (cmp : K → K → Ordering) (o : IsTotalOrder cmp) where
             let l : Below cmp (get_or ks (i - 1) k).now k.now = subst (λ x. Below cmp (get_or ks (i - 1) k).now x.now) (sym e) (above (i - 1) k n ∙ anew) in
             each-with (λ x. Upto cmp x (get_or ks (i - 1) k).now) (λ x. Below cmp x k.now) (keys_of (take i ks)) (λ x u. up_low cmp o x (get_or ks (i - 1) k).now k.now u l) (all_upto_last (i - 1) k n)
 
-    pub once_stays : (k : Bor K) (b : Bool) → k ≡ get_or ks i k → ((j : ℕ) (d : Bor K) → suc j ≡ i → below cmp (get_or ks j d).now (get_or ks i d).now ≡ b) → (i ≡ 0 → b ≡ true) → b ≡ false → IsOnceEach cmp (keys_of (take (i + 1) ks)) once
+    pub once_stays : (k : Bor K) (b : Bool) → k ≡ get_or ks i k → ((j : ℕ) (d : Bor K) → suc j ≡ i → below cmp (get_or ks j d).now (get_or ks i d).now ≡ b)
+        → (i ≡ 0 → b ≡ true) → b ≡ false → IsOnceEach cmp (keys_of (take (i + 1) ks)) once
     once_stays k b e above first again =
         subst (λ xs. IsOnceEach cmp xs once) (sym (map_more (λ x. x.now) ks i k within e)) (go (eq-zero-or-pos i))
       where
@@ -196,6 +202,7 @@ module _ {K : Type 0} (cmp : K → K → Ordering) (o : IsTotalOrder cmp) where
         all = each-of_All Once (keys_of keys) (All-permutation Once (keys_of sorted) (keys_of keys) back_again (All-of_each Once (keys_of sorted) r.all));
       }
     where
-      each_any : (ks : List K) → AllByRecursion (λ k. AnyByRecursion (Same cmp k) (keys_of sorted)) ks → AllByRecursion (λ k. AnyByRecursion (Same cmp k) (keys_of keys)) (keys_of sorted) → AllByRecursion (λ k. AnyByRecursion (Same cmp k) (keys_of keys)) ks
+      each_any : (ks : List K) → AllByRecursion (λ k. AnyByRecursion (Same cmp k) (keys_of sorted)) ks
+          → AllByRecursion (λ k. AnyByRecursion (Same cmp k) (keys_of keys)) (keys_of sorted) → AllByRecursion (λ k. AnyByRecursion (Same cmp k) (keys_of keys)) ks
       each_any [] a h = tt
       each_any (k ∷ ks) a h = (any_with (λ j. AnyByRecursion (Same cmp j) (keys_of keys)) (keys_of sorted) k (λ j s b. alike (keys_of keys) k j s b) a.0 h, each_any ks a.1 h)

@@ -39,8 +39,10 @@ module _ {K : Type 0} (cmp : K → K → Ordering) (o : IsTotalOrder cmp) (g : G
     row_over-same t u (high h) (node i j e s) q p = absurd p
     row_over-same t u (node h k d r) (high i) q p = absurd p
     row_over-same t u (node h k d r) (node i j e s) q p =
-        subst (λ b. SameFound (row_over cmp g t (node h k d r)) (if b then (if (is_before cmp g.before j) then (Some u) else (held_over cmp g i)) else (row_over cmp g u s))) (after-same g.after k j p.1)
-        (subst (λ c. SameFound (row_over cmp g t (node h k d r)) (if (is_after cmp g.after k) then (if c then (Some u) else (held_over cmp g i)) else (row_over cmp g u s))) (before-same g.before k j p.1)
+        subst (λ b. SameFound (row_over cmp g t (node h k d r))
+        (if b then (if (is_before cmp g.before j) then (Some u) else (held_over cmp g i)) else (row_over cmp g u s))) (after-same g.after k j p.1)
+        (subst (λ c. SameFound (row_over cmp g t (node h k d r))
+        (if (is_after cmp g.after k) then (if c then (Some u) else (held_over cmp g i)) else (row_over cmp g u s))) (before-same g.before k j p.1)
         (by (is_after cmp g.after k) (is_before cmp g.before k) (held_over-same h i p.0) (row_over-same t u r s q p.3)))
       where
         by : (a b : Bool) → SameFound (held_over cmp g h) (held_over cmp g i) → SameFound (row_over cmp g t r) (row_over cmp g u s)
@@ -55,7 +57,8 @@ module _ {K : Type 0} (cmp : K → K → Ordering) (o : IsTotalOrder cmp) (g : G
     held_over-same (below t) nothing q = absurd q
     held_over-same (below t) (below u) q = over-same t u q
 
-  pub page_with-same : (format : PageFormat) (bytes_of : K → List ℕ) → ((t u : Tree K (List ℕ)) → SamePages cmp t u → page_digest format bytes_of t ≡ page_digest format bytes_of u) → (d : List ℕ) (t u : Tree K (List ℕ)) → SamePages cmp t u
+  pub page_with-same : (format : PageFormat) (bytes_of : K → List ℕ)
+      → ((t u : Tree K (List ℕ)) → SamePages cmp t u → page_digest format bytes_of t ≡ page_digest format bytes_of u) → (d : List ℕ) (t u : Tree K (List ℕ)) → SamePages cmp t u
       → is_page_with format bytes_of d (page_over cmp g t) ≡ is_page_with format bytes_of d (page_over cmp g u)
   page_with-same format bytes_of one_digest d t u q = by (page_over cmp g t) (page_over cmp g u) (over-same t u q)
     where

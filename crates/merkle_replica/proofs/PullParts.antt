@@ -32,7 +32,8 @@ use Rattle.merkle_replica.proofs.SideLaws.{same_side}
 
 module _ {K V H : Type 0} (laws : Laws K V H) where
   -- an answer for replicas that were hashed is one for them as they were
-  pub answered_before : (local peer local' peer' : Contents K V H) (found : List (Span K)) → local'.rows ≡ local.rows → peer'.rows ≡ peer.rows → SameSettings local.tree local'.tree → SameSettings peer.tree peer'.tree
+  pub answered_before : (local peer local' peer' : Contents K V H) (found : List (Span K)) → local'.rows ≡ local.rows → peer'.rows ≡ peer.rows
+      → SameSettings local.tree local'.tree → SameSettings peer.tree peer'.tree
       → IsAnswerFor laws (side local') (side peer') found → IsAnswerFor laws (side local) (side peer) found
   answered_before local peer local' peer' found lr pr ls ps a =
       subst (λ s. IsAnswerFor laws s (side peer) found) (same_side local local' lr ls) (subst (λ s. IsAnswerFor laws (side local') s found) (same_side peer peer' pr ps) a)
@@ -61,7 +62,8 @@ module _ {K V H : Type 0} (laws : Laws K V H) where
       let dp = tree_map laws peer in
       let ml = ascending_digests laws.cmp o (laws.value_digest local.hasher) local.rows al in
       let mp = ascending_digests laws.cmp o (laws.value_digest peer.hasher) peer.rows ap in
-      covers laws.cmp o (IsPageOf laws.cmp (laws.key_digest local.hasher) local.base) (IsPageOf laws.cmp (laws.key_digest peer.hasher) peer.base) (page_digest local.format laws.bytes_of) (page_digest peer.format laws.bytes_of) pairs dl dp a.local_list a.peer_list found ml mp
+      covers laws.cmp o (IsPageOf laws.cmp (laws.key_digest local.hasher) local.base) (IsPageOf laws.cmp (laws.key_digest peer.hasher) peer.base)
+      (page_digest local.format laws.bytes_of) (page_digest peer.format laws.bytes_of) pairs dl dp a.local_list a.peer_list found ml mp
       (lists local.hasher local.base local.format dl a.local_list ml a.of_local) (lists peer.hasher peer.base peer.format dp a.peer_list mp a.of_peer)
       (span_digests peer.rows local.rows holds) faith a.interval_laws k d there lacks
     where
@@ -93,7 +95,8 @@ module _ {K V H : Type 0} (laws : Laws K V H) where
       }
 
   -- the steps of a pull, where what came is what was sent, up to equal keys and equal values
-  pub steps_pull : IsTotalOrder laws.cmp → IsEquivalence laws.eq → IsJoining laws.eq laws.join → AreShaped laws → (local peer : Side K V H) (found : List (Span K)) (after : List (K × V)) → IsMap laws.cmp peer.rows
+  pub steps_pull : IsTotalOrder laws.cmp → IsEquivalence laws.eq → IsJoining laws.eq laws.join → AreShaped laws
+      → (local peer : Side K V H) (found : List (Span K)) (after : List (K × V)) → IsMap laws.cmp peer.rows
       → ArePullSteps laws local peer found after → IsPull laws local peer (record { ranges = found; joined = length (rows_in laws.cmp found peer.rows) }) after
   steps_pull o e j shaped local peer found after ap s = record {
     answered = answer_came o shaped local peer s.theirs s.came found ap s.of_peer s.ranges_came s.answered;
@@ -103,14 +106,18 @@ module _ {K V H : Type 0} (laws : Laws K V H) where
   }
 
   -- two answers for the same sides ask for the same ranges, and pulls by them join the same rows
-  pub one_answer_for : IsTotalOrder laws.cmp → HaveOneList laws → (local peer : Side K V H) (xs ys : List (Span K)) → IsAnswerFor laws local peer xs → IsAnswerFor laws local peer ys → SameSpans laws.cmp xs ys
+  pub one_answer_for : IsTotalOrder laws.cmp → HaveOneList laws → (local peer : Side K V H) (xs ys : List (Span K)) → IsAnswerFor laws local peer xs
+      → IsAnswerFor laws local peer ys → SameSpans laws.cmp xs ys
   one_answer_for o lists local peer xs ys a b =
-      one_answer-alike laws.cmp o a.local_list b.local_list a.peer_list b.peer_list xs ys (lists local a.local_list b.local_list a.of_local b.of_local) (lists peer a.peer_list b.peer_list a.of_peer b.of_peer) a.exact_walk b.exact_walk
+      one_answer-alike laws.cmp o a.local_list b.local_list a.peer_list b.peer_list xs ys (lists local a.local_list b.local_list a.of_local b.of_local)
+      (lists peer a.peer_list b.peer_list a.of_peer b.of_peer) a.exact_walk b.exact_walk
 
-  pub one_pull : IsTotalOrder laws.cmp → IsEquivalence laws.eq → IsJoining laws.eq laws.join → HaveOneList laws → (local peer : Side K V H) (x y : Answer K) (after then : List (K × V)) → IsPull laws local peer x after → IsPull laws local peer y then
+  pub one_pull : IsTotalOrder laws.cmp → IsEquivalence laws.eq → IsJoining laws.eq laws.join → HaveOneList laws
+      → (local peer : Side K V H) (x y : Answer K) (after then : List (K × V)) → IsPull laws local peer x after → IsPull laws local peer y then
       → (x.joined ≡ y.joined) × SameMap laws.cmp (λ v w. laws.eq v w ≡ true) after then
   one_pull o e j lists local peer x y after then a b =
       let same = rows_in-alike laws.cmp o x.ranges y.ranges (one_answer_for o lists local peer x.ranges y.ranges a.answered b.answered) peer.rows in (
         a.counted ∙ ap length same ∙ sym b.counted,
-        same_joins laws.cmp o laws.eq e laws.join j local.rows (rows_in laws.cmp y.ranges peer.rows) after then (subst (λ rows. IsJoin laws.cmp laws.eq laws.join local.rows rows after) same a.joins) b.joins,
+        same_joins laws.cmp o laws.eq e laws.join j local.rows (rows_in laws.cmp y.ranges peer.rows) after then
+            (subst (λ rows. IsJoin laws.cmp laws.eq laws.join local.rows rows after) same a.joins) b.joins,
       )

@@ -13,7 +13,8 @@ use Rattle.key_order.proofs.Maps.{absent}
 use Rattle.key_order.proofs.Values.{Eq, same, back, on, assoc, cong, to_none}
 
 module _ {K V : Type 0} (cmp : K → K → Ordering) (o : IsTotalOrder cmp) (eq : V → V → Bool) (e : IsEquivalence eq) (join : V → V → V) (j : IsJoining eq join) where
-  get_more : (front : List (K × V)) (r : K × V) (k : K) → AllByRecursion (λ s. Below cmp s.0 r.0) front → Eq eq e join j (joined join (get cmp front k) (get cmp (r ∷ []) k)) (get cmp (front ++ r ∷ []) k)
+  get_more : (front : List (K × V)) (r : K × V) (k : K) → AllByRecursion (λ s. Below cmp s.0 r.0) front
+      → Eq eq e join j (joined join (get cmp front k) (get cmp (r ∷ []) k)) (get cmp (front ++ r ∷ []) k)
   get_more [] r k a = same eq e join j (get cmp (r ∷ []) k)
   get_more (s ∷ ss) r k a = go (which (is_eq (cmp s.0 k))) (get_more ss r k a.1)
     where
@@ -42,7 +43,8 @@ module _ {K V : Type 0} (cmp : K → K → Ordering) (o : IsTotalOrder cmp) (eq 
   }
 
   -- a pull that goes on by one row
-  pub join_more : (a c c' front : List (K × V)) (r : K × V) → AllByRecursion (λ s. Below cmp s.0 r.0) front → IsJoin cmp eq join a front c → IsJoin cmp eq join c (r ∷ []) c' → IsJoin cmp eq join a (front ++ r ∷ []) c'
+  pub join_more : (a c c' front : List (K × V)) (r : K × V) → AllByRecursion (λ s. Below cmp s.0 r.0) front → IsJoin cmp eq join a front c
+      → IsJoin cmp eq join c (r ∷ []) c' → IsJoin cmp eq join a (front ++ r ∷ []) c'
   join_more a c c' front r below p q = record {
     ascending = q.ascending;
     values = λ i.
@@ -50,7 +52,8 @@ module _ {K V : Type 0} (cmp : K → K → Ordering) (o : IsTotalOrder cmp) (eq 
         let F = get cmp front i in
         let R = get cmp (r ∷ []) i in
         on eq e join j (get cmp c' i) (joined join (get cmp c i) R) (joined join A (get cmp (front ++ r ∷ []) i)) (q.values i)
-        (on eq e join j (joined join (get cmp c i) R) (joined join (joined join A F) R) (joined join A (get cmp (front ++ r ∷ []) i)) (cong eq e join j (get cmp c i) (joined join A F) R R (p.values i) (same eq e join j R))
+        (on eq e join j (joined join (get cmp c i) R) (joined join (joined join A F) R) (joined join A (get cmp (front ++ r ∷ []) i))
+        (cong eq e join j (get cmp c i) (joined join A F) R R (p.values i) (same eq e join j R))
         (on eq e join j (joined join (joined join A F) R) (joined join A (joined join F R)) (joined join A (get cmp (front ++ r ∷ []) i)) (assoc eq e join j A F R)
         (cong eq e join j A A (joined join F R) (get cmp (front ++ r ∷ []) i) (same eq e join j A) (get_more front r i below))));
   }

@@ -17,7 +17,8 @@ module _ {V : Type 0} (eq : V → V → Bool) (e : IsEquivalence eq) (join : V �
   keeps_join false x y x' h = cong eq e join j x' x y y (on eq e join j x' (J eq e join j x None) x h (to_none eq e join j x)) (same eq e join j y)
   keeps_join true x y x' h =
       on eq e join j (J eq e join j x' y) (J eq e join j (J eq e join j x y) y) (J eq e join j x y) (cong eq e join j x' (J eq e join j x y) y y h (same eq e join j y))
-      (on eq e join j (J eq e join j (J eq e join j x y) y) (J eq e join j x (J eq e join j y y)) (J eq e join j x y) (assoc eq e join j x y y) (cong eq e join j x x (J eq e join j y y) y (same eq e join j x) (idem eq e join j y)))
+      (on eq e join j (J eq e join j (J eq e join j x y) y) (J eq e join j x (J eq e join j y y)) (J eq e join j x y) (assoc eq e join j x y y)
+      (cong eq e join j x x (J eq e join j y y) y (same eq e join j x) (idem eq e join j y)))
 
   -- nothing there, or the same eq e join j as here
   abbrev pub SameOrAbsent : Option V → Option V → Type 0

@@ -29,9 +29,12 @@ module _ {K V : Type 0} (cmp : K → K → Ordering) (o : IsTotalOrder cmp) wher
     gathered_more : (rows : List (K × V)) (r : K × V) (k : K) → Eq eq e join j (join_of_values cmp eq join (rows ++ r ∷ []) k) (joined join (join_of_values cmp eq join rows k) (at k r))
     gathered_more [] r k = to_none eq e join j (at k r)
     gathered_more (s ∷ rows) r k =
-        on eq e join j (joined join (at k s) (join_of_values cmp eq join (rows ++ r ∷ []) k)) (joined join (at k s) (joined join (join_of_values cmp eq join rows k) (at k r))) (joined join (joined join (at k s) (join_of_values cmp eq join rows k)) (at k r))
-        (cong eq e join j (at k s) (at k s) (join_of_values cmp eq join (rows ++ r ∷ []) k) (joined join (join_of_values cmp eq join rows k) (at k r)) (same eq e join j (at k s)) (gathered_more rows r k))
-        (back eq e join j (joined join (joined join (at k s) (join_of_values cmp eq join rows k)) (at k r)) (joined join (at k s) (joined join (join_of_values cmp eq join rows k) (at k r))) (assoc eq e join j (at k s) (join_of_values cmp eq join rows k) (at k r)))
+        on eq e join j (joined join (at k s) (join_of_values cmp eq join (rows ++ r ∷ []) k))
+        (joined join (at k s) (joined join (join_of_values cmp eq join rows k) (at k r))) (joined join (joined join (at k s) (join_of_values cmp eq join rows k)) (at k r))
+        (cong eq e join j (at k s) (at k s) (join_of_values cmp eq join (rows ++ r ∷ []) k) (joined join (join_of_values cmp eq join rows k) (at k r))
+        (same eq e join j (at k s)) (gathered_more rows r k))
+        (back eq e join j (joined join (joined join (at k s) (join_of_values cmp eq join rows k)) (at k r))
+        (joined join (at k s) (joined join (join_of_values cmp eq join rows k) (at k r))) (assoc eq e join j (at k s) (join_of_values cmp eq join rows k) (at k r)))
 
     -- nothing is join_of_values
     pub gathers_none : (old : List (K × V)) → IsMap cmp old → HasGathered cmp eq join old [] old
@@ -47,7 +50,8 @@ module _ {K V : Type 0} (cmp : K → K → Ordering) (o : IsTotalOrder cmp) wher
           let R = at k r in
           let G' = join_of_values cmp eq join (rows ++ r ∷ []) k in
           on eq e join j (get cmp now' k) (joined join (get cmp now k) R) (joined join A G') (p.values k)
-          (on eq e join j (joined join (get cmp now k) R) (joined join (joined join A G) R) (joined join A G') (cong eq e join j (get cmp now k) (joined join A G) R R (h.values k) (same eq e join j R))
+          (on eq e join j (joined join (get cmp now k) R) (joined join (joined join A G) R) (joined join A G')
+          (cong eq e join j (get cmp now k) (joined join A G) R R (h.values k) (same eq e join j R))
           (on eq e join j (joined join (joined join A G) R) (joined join A (joined join G R)) (joined join A G') (assoc eq e join j A G R)
           (cong eq e join j A A (joined join G R) G' (same eq e join j A) (back eq e join j G' (joined join G R) (gathered_more rows r k)))));
     }
@@ -59,14 +63,17 @@ module _ {K V : Type 0} (cmp : K → K → Ordering) (o : IsTotalOrder cmp) wher
       where
         none_behind : (xs : List (K × V)) → is_eq (cmp r.0 k) ≡ true → AllByRecursion (λ s. Below cmp r.0 s.0) xs → IsMap cmp xs → get cmp xs k ≡ None
         none_behind [] n a up = refl
-        none_behind (x ∷ xs) n a up = absent cmp o (x ∷ xs) k (each-with (λ s. Below cmp r.0 s.0) (λ s. Below cmp k s.0) (x ∷ xs) (λ s b. up_low cmp o k r.0 s.0 (same_down cmp o r.0 k (is_equal (cmp r.0 k) n)) b) a)
+        none_behind (x ∷ xs) n a up = absent cmp o (x ∷ xs) k
+            (each-with (λ s. Below cmp r.0 s.0) (λ s. Below cmp k s.0) (x ∷ xs) (λ s b. up_low cmp o k r.0 s.0 (same_down cmp o r.0 k (is_equal (cmp r.0 k) n)) b) a)
 
-        go : (is_eq (cmp r.0 k) ≡ false) ⊎ (is_eq (cmp r.0 k) ≡ true) → Eq eq e join j (join_of_values cmp eq join rows k) (get cmp rows k) → Eq eq e join j (joined join (at k r) (join_of_values cmp eq join rows k)) (get cmp (r ∷ rows) k)
+        go : (is_eq (cmp r.0 k) ≡ false) ⊎ (is_eq (cmp r.0 k) ≡ true) → Eq eq e join j (join_of_values cmp eq join rows k) (get cmp rows k)
+            → Eq eq e join j (joined join (at k r) (join_of_values cmp eq join rows k)) (get cmp (r ∷ rows) k)
         go (inl n) h = rw n h
         go (inr n) h =
             let none = none_behind rows n m.0 m.1 in
             let g : Eq eq e join j (join_of_values cmp eq join rows k) None = subst (Eq eq e join j (join_of_values cmp eq join rows k)) none h in
-            rw n (on eq e join j (joined join (Some r.1) (join_of_values cmp eq join rows k)) (joined join (Some r.1) None) (Some r.1) (cong eq e join j (Some r.1) (Some r.1) (join_of_values cmp eq join rows k) None (same eq e join j (Some r.1)) g) (to_none eq e join j (Some r.1)))
+            rw n (on eq e join j (joined join (Some r.1) (join_of_values cmp eq join rows k)) (joined join (Some r.1) None) (Some r.1)
+            (cong eq e join j (Some r.1) (Some r.1) (join_of_values cmp eq join rows k) None (same eq e join j (Some r.1)) g) (to_none eq e join j (Some r.1)))
 
     -- gathering a map joins it
     pub gathers_map : (old rows now : List (K × V)) → IsMap cmp rows → HasGathered cmp eq join old rows now → IsJoin cmp eq join old rows now
@@ -96,10 +103,12 @@ module _ {K V : Type 0} (cmp : K → K → Ordering) (o : IsTotalOrder cmp) wher
 
         go : (x : Option V) → get cmp old r.0 ≡ x → ((mid : List (K × V)) → IsJoin cmp eq join old (r ∷ []) mid → IsPuts cmp eq join old (r ∷ rows) now) → IsPuts cmp eq join old (r ∷ rows) now
         go None is further = further (set cmp old r.0 r.1) (put_joins cmp o eq e join j old r.0 r.1 r.1 m (subst (λ y. Eq eq e join j (Some r.1) (joined join y (Some r.1))) (sym is) (e.refl r.1)))
-        go (Some v) is further = further (set cmp old r.0 (join v r.1)) (put_joins cmp o eq e join j old r.0 r.1 (join v r.1) m (subst (λ y. Eq eq e join j (Some (join v r.1)) (joined join y (Some r.1))) (sym is) (e.refl (join v r.1))))
+        go (Some v) is further = further (set cmp old r.0 (join v r.1))
+            (put_joins cmp o eq e join j old r.0 r.1 (join v r.1) m (subst (λ y. Eq eq e join j (Some (join v r.1)) (joined join y (Some r.1))) (sym is) (e.refl (join v r.1))))
 
     -- rows in key order, join_of_values up to a place, are put up to it
-    pub puts_to : (rows sorted old now : List (K × V)) (done : ℕ) → IsMap cmp old → length sorted ≡ length rows → AreInKeyOrder cmp rows sorted → IsGatheredTo cmp eq join old sorted now done → IsPutsTo cmp eq join old rows done now
+    pub puts_to : (rows sorted old now : List (K × V)) (done : ℕ) → IsMap cmp old → length sorted ≡ length rows → AreInKeyOrder cmp rows sorted
+        → IsGatheredTo cmp eq join old sorted now done → IsPutsTo cmp eq join old rows done now
     puts_to rows sorted old now zero m n order g = let some = g.not_all in inl (refl, omega (arith, some, n), g.unchanged refl)
     puts_to rows sorted old now (suc done) m n order g = let some = g.not_all in inr (sorted, order, omega arith, omega (arith, some, n), puts_gather (take (suc done) sorted) old now m g.gathers)
 
@@ -115,7 +124,8 @@ module _ {K V : Type 0} (cmp : K → K → Ordering) (o : IsTotalOrder cmp) wher
   map_taken (r ∷ rows) (suc n) m = (low_taken r.0 rows n m.0, map_taken rows n m.1)
 
   -- the row after those join_of_values is refused
-  pub gathered_to : (eq : V → V → Bool) (join : V → V → V) (old seen rest all now : List (K × V)) (r : K × V) (done : ℕ) → seen ++ r ∷ rest ≡ all → length seen ≡ done → HasGathered cmp eq join old seen now → (done ≡ 0 → now ≡ old) → IsGatheredTo cmp eq join old all now done
+  pub gathered_to : (eq : V → V → Bool) (join : V → V → V) (old seen rest all now : List (K × V)) (r : K × V) (done : ℕ) → seen ++ r ∷ rest ≡ all
+      → length seen ≡ done → HasGathered cmp eq join old seen now → (done ≡ 0 → now ≡ old) → IsGatheredTo cmp eq join old all now done
   gathered_to eq join old seen rest all now r done e n h u =
       let l : length all ≡ length seen + suc (length rest) = ap length (sym e) ∙ length-append seen (r ∷ rest) in
       record {

@@ -38,7 +38,8 @@ beside R xs i j x y d e h r =
 
 module _ {K : Type 0} (cmp : K → K → Ordering) (o : IsTotalOrder cmp) where
   -- each range has its bounds in order, and ends below the next
-  pub are_from : (rs : List (K × K)) → ((j : ℕ) (d : K × K) → j < length rs → Upto cmp (get_or rs j d).0 (get_or rs j d).1) → ((j : ℕ) (d : K × K) → suc j < length rs → Below cmp (get_or rs j d).1 (get_or rs (suc j) d).0) → AreRanges cmp (spans_of rs)
+  pub are_from : (rs : List (K × K)) → ((j : ℕ) (d : K × K) → j < length rs → Upto cmp (get_or rs j d).0 (get_or rs j d).1)
+      → ((j : ℕ) (d : K × K) → suc j < length rs → Below cmp (get_or rs j d).1 (get_or rs (suc j) d).0) → AreRanges cmp (spans_of rs)
   are_from [] up low = (tt, tt)
   are_from (r ∷ rs) up low =
       let rest = are_from rs (λ j d h. up (suc j) d (omega arith)) (λ j d h. low (suc j) d (omega arith)) in
@@ -46,7 +47,11 @@ module _ {K : Type 0} (cmp : K → K → Ordering) (o : IsTotalOrder cmp) where
     where
       first : (qs : List (K × K)) → AreRanges cmp (spans_of qs) → ((d : K × K) → 0 < length qs → Below cmp r.1 (get_or qs 0 d).0) → AllByRecursion (λ t. Below cmp r.1 t.first) (spans_of qs)
       first [] a h = tt
-      first (q ∷ qs) a h = (h q (omega arith), each-with (λ t. Below cmp q.1 t.first) (λ t. Below cmp r.1 t.first) (spans_of qs) (λ t b. low_low cmp o r.1 q.1 t.first (low_up cmp o r.1 q.0 q.1 (h q (omega arith)) a.1.0) b) a.0.0)
+      first (q ∷ qs) a h = (
+        h q (omega arith),
+        each-with (λ t. Below cmp q.1 t.first) (λ t. Below cmp r.1 t.first) (spans_of qs)
+            (λ t b. low_low cmp o r.1 q.1 t.first (low_up cmp o r.1 q.0 q.1 (h q (omega arith)) a.1.0) b) a.0.0,
+      )
 
   pub are_at : (rs : List (K × K)) (j : ℕ) (d : K × K) → AreRanges cmp (spans_of rs) → j < length rs → Upto cmp (get_or rs j d).0 (get_or rs j d).1
   are_at [] j d a h = absurd (omega arith)
@@ -60,7 +65,8 @@ module _ {K : Type 0} (cmp : K → K → Ordering) (o : IsTotalOrder cmp) where
   are_next (r ∷ q ∷ rs) (suc j) d a h = are_next (q ∷ rs) j d (a.0.1, a.1.1) (omega arith)
 
   -- a test of whether a range begins after the one before it passes on ranges
-  pub begins_behind_passes : (rs : List (K × K)) (i : ℕ) (r : Bool) (d : K × K) → ((j : ℕ) (e : K × K) → suc j ≡ i → below cmp (get_or rs j e).1 (get_or rs i e).0 ≡ r) → (i ≡ 0 → r ≡ true) → i < length rs → AreRanges cmp (spans_of rs) → r ≡ true
+  pub begins_behind_passes : (rs : List (K × K)) (i : ℕ) (r : Bool) (d : K × K)
+      → ((j : ℕ) (e : K × K) → suc j ≡ i → below cmp (get_or rs j e).1 (get_or rs i e).0 ≡ r) → (i ≡ 0 → r ≡ true) → i < length rs → AreRanges cmp (spans_of rs) → r ≡ true
   begins_behind_passes rs i r d f z h a = go (eq-zero-or-pos i)
     where
       go : (i ≡ 0) ⊎ (0 < i) → r ≡ true

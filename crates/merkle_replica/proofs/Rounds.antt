@@ -61,13 +61,16 @@ module _ {K V H : Type 0} (laws : Laws K V H) (o : IsTotalOrder laws.cmp) (local
   weaker a b le (of_page g digest ∷ xs) ((t, fills, less, q), h) = ((t, fills, omega arith, q), weaker a b le xs h)
 
   -- outlines over gaps that pages of the peer's tree fill
-  module _ (down : (t : Tree K (List ℕ)) (g : Gap K) → Fills laws.cmp g t root → Valid (level t) (outline g) × ((k : K) (d : List ℕ) → get laws.cmp (pairs root) k ≡ Some d → IsInGap laws.cmp k g → AnyByRecursion (HasItemAt laws.cmp k) (outline g))) where
+  module _ (down : (t : Tree K (List ℕ)) (g : Gap K) → Fills laws.cmp g t root → Valid (level t) (outline g)
+      × ((k : K) (d : List ℕ) → get laws.cmp (pairs root) k ≡ Some d → IsInGap laws.cmp k g → AnyByRecursion (HasItemAt laws.cmp k) (outline g))) where
     outlines_valid : (n m : ℕ) → n ≤ m + 1 → (gs : List (Gap K)) → AllByRecursion (IsPageGap laws local peer n) gs → Valid m (flat_map outline gs)
     outlines_valid n m le [] a = tt
     outlines_valid n m le (g ∷ gs) ((t, fills, low), a) =
-        each-append (IsItemOf peer.tree.format laws.bytes_of laws.cmp root m) (outline g) (flat_map outline gs) (weaker (level t) m (omega arith) (outline g) (down t g fills).0) (outlines_valid n m le gs a)
+        each-append (IsItemOf peer.tree.format laws.bytes_of laws.cmp root m) (outline g) (flat_map outline gs)
+        (weaker (level t) m (omega arith) (outline g) (down t g fills).0) (outlines_valid n m le gs a)
 
-    outlines_cover : (n : ℕ) (gs : List (Gap K)) (k : K) (d : List ℕ) → AllByRecursion (IsPageGap laws local peer n) gs → get laws.cmp (pairs root) k ≡ Some d → AnyByRecursion (IsInGap laws.cmp k) gs → AnyByRecursion (HasItemAt laws.cmp k) (flat_map outline gs)
+    outlines_cover : (n : ℕ) (gs : List (Gap K)) (k : K) (d : List ℕ) → AllByRecursion (IsPageGap laws local peer n) gs → get laws.cmp (pairs root) k ≡ Some d
+        → AnyByRecursion (IsInGap laws.cmp k) gs → AnyByRecursion (HasItemAt laws.cmp k) (flat_map outline gs)
     outlines_cover n [] k d a f i = absurd i
     outlines_cover n (g ∷ gs) k d ((t, fills, low), a) f (inl i) = any-append (HasItemAt laws.cmp k) (outline g) (flat_map outline gs) (inl ((down t g fills).1 k d f i))
     outlines_cover n (g ∷ gs) k d (p, a) f (inr i) = any-append (HasItemAt laws.cmp k) (outline g) (flat_map outline gs) (inr (outlines_cover n gs k d a f i))
@@ -95,26 +98,30 @@ module _ {K V H : Type 0} (laws : Laws K V H) (o : IsTotalOrder laws.cmp) (local
     sorted_lacked n (of_page g digest ∷ es) gs ks v (gf, gr, ko, kr, (empty, h), r, p, q) =
         subst (AllByRecursion Lacked) (sym (q ∙ ap (λ z. z ++ kr) empty)) (sorted_lacked n es gr kr v.1 r)
 
-    module _ (in_gap : (t : Tree K (List ℕ)) (g : Gap K) (k : K) (d : List ℕ) → Fills laws.cmp g t root → IsInGap laws.cmp k g → get laws.cmp (pairs root) k ≡ Some d → get laws.cmp (pairs t) k ≡ Some d)
+    module _ (in_gap : (t : Tree K (List ℕ)) (g : Gap K) (k : K) (d : List ℕ) → Fills laws.cmp g t root → IsInGap laws.cmp k g
+        → get laws.cmp (pairs root) k ≡ Some d → get laws.cmp (pairs t) k ≡ Some d)
         (canonical : IsCanonicalRoot (λ k. level_of (laws.key_digest peer.tree.hasher k) peer.tree.base) root) (own_is : IsTreeOfSide laws (side local) (own_tree laws (side local))) where
       -- local has the page over a gap where it has its digest
       own_page : (g : Gap K) (c : List ℕ) → has_page_over laws (side local) g c ≡ true → HasPage laws (side local) c
       own_page g c has = by (page_over laws.cmp g (own_tree laws (side local))) refl has
         where
-          by : (found : Option (Tree K (List ℕ))) → page_over laws.cmp g (own_tree laws (side local)) ≡ found → is_page_with local.tree.format laws.bytes_of c found ≡ true → HasPage laws (side local) c
+          by : (found : Option (Tree K (List ℕ))) → page_over laws.cmp g (own_tree laws (side local)) ≡ found
+              → is_page_with local.tree.format laws.bytes_of c found ≡ true → HasPage laws (side local) c
           by None e same = absurd (cc)
           by (Some s) e same =
               (s, (own_tree laws (side local), own_is, (over_inside laws.cmp g (own_tree laws (side local)) s e).0), (bytes_decides (page_digest local.tree.format laws.bytes_of s) c).0 same)
 
       -- a key in a page of the peer whose digest is that of a page of local is hidden
-      hides : (t : Tree K (List ℕ)) (g : Gap K) (k : K) (c d : List ℕ) → Fills laws.cmp g t root → page_digest peer.tree.format laws.bytes_of t ≡ c → HasPage laws (side local) c → IsInGap laws.cmp k g → get laws.cmp (pairs root) k ≡ Some d → Hidden k
+      hides : (t : Tree K (List ℕ)) (g : Gap K) (k : K) (c d : List ℕ) → Fills laws.cmp g t root → page_digest peer.tree.format laws.bytes_of t ≡ c
+          → HasPage laws (side local) c → IsInGap laws.cmp k g → get laws.cmp (pairs root) k ≡ Some d → Hidden k
       hides t g k c d fills own (s, of_local, digest) inside f = (s, t, d, of_local, (root, (canonical, kept), fills.inside), digest ∙ sym own, in_gap t g k d fills inside f)
 
       -- so a key that is missing is in a gap or among the keys that are asked for, unless it is hidden
       abbrev Covers : K → List (Gap K) → List K → Type 0
       Covers k gs ks = (AnyByRecursion (IsInGap laws.cmp k) gs ⊎ AnyByRecursion (Same laws.cmp k) ks) ⊎ Hidden k
 
-      item_covers : (n : ℕ) (x : Item K (List ℕ)) (gs : List (Gap K)) (ks : List K) (k : K) → IsItemOf peer.tree.format laws.bytes_of laws.cmp root n x → IsSortedOut laws (side local) x gs ks → Lacked k → HasItemAt laws.cmp k x → Covers k gs ks
+      item_covers : (n : ℕ) (x : Item K (List ℕ)) (gs : List (Gap K)) (ks : List K) (k : K) → IsItemOf peer.tree.format laws.bytes_of laws.cmp root n x
+          → IsSortedOut laws (side local) x gs ks → Lacked k → HasItemAt laws.cmp k x → Covers k gs ks
       item_covers n (of_node j c) gs ks k v (empty, inl (has, none)) (d, there, lacks) same =
           let in_peer : get laws.cmp (tree_map laws (side peer)) k ≡ Some c = get_same laws.cmp o (tree_map laws (side peer)) k j same ∙ sym (at_peer j) ∙ v in
           let in_local : get laws.cmp (tree_map laws (side local)) k ≡ Some d = get_same laws.cmp o (tree_map laws (side local)) k j same ∙ has ∙ sym in_peer ∙ there in
@@ -123,7 +130,8 @@ module _ {K V H : Type 0} (laws : Laws K V H) (o : IsTotalOrder laws.cmp) (local
       item_covers n (of_page g digest) gs ks k v (empty, inl (has, none)) l inside = inr (hides v.0 g k digest l.0 v.1 v.3 (own_page g digest has) inside (at_peer k ∙ l.1))
       item_covers n (of_page g digest) gs ks k v (empty, inr (lacks, one)) l inside = inl (inl (subst (AnyByRecursion (IsInGap laws.cmp k)) (sym one) (inl inside)))
 
-      sorted_covers : (n : ℕ) (es : List (Item K (List ℕ))) (gs : List (Gap K)) (ks : List K) (k : K) → Valid n es → AreSortedOut laws (side local) es gs ks → Lacked k → AnyByRecursion (HasItemAt laws.cmp k) es → Covers k gs ks
+      sorted_covers : (n : ℕ) (es : List (Item K (List ℕ))) (gs : List (Gap K)) (ks : List K) (k : K) → Valid n es → AreSortedOut laws (side local) es gs ks
+          → Lacked k → AnyByRecursion (HasItemAt laws.cmp k) es → Covers k gs ks
       sorted_covers n [] gs ks k v r l a = absurd a
       sorted_covers n (x ∷ es) gs ks k v (gf, gr, ko, kr, h, r, p, q) l (inl a) = go (item_covers n x gf ko k v.0 h l a)
         where
@@ -142,10 +150,12 @@ module _ {K V H : Type 0} (laws : Laws K V H) (o : IsTotalOrder laws.cmp) (local
 pub record Premises {K V H : Type 0} (laws : Laws K V H) (local peer : Contents K V H) : Type 0 where
   pub down : (t : Tree K (List ℕ)) (g : Gap K) → Fills laws.cmp g t peer.tree.root
       → AllByRecursion (IsItemOf peer.tree.format laws.bytes_of laws.cmp peer.tree.root (level t)) (outline_over peer.tree.format laws.bytes_of laws.cmp peer.tree.root g)
-      × ((k : K) (d : List ℕ) → get laws.cmp (pairs peer.tree.root) k ≡ Some d → IsInGap laws.cmp k g → AnyByRecursion (HasItemAt laws.cmp k) (outline_over peer.tree.format laws.bytes_of laws.cmp peer.tree.root g))
+      × ((k : K) (d : List ℕ) → get laws.cmp (pairs peer.tree.root) k ≡ Some d → IsInGap laws.cmp k g
+      → AnyByRecursion (HasItemAt laws.cmp k) (outline_over peer.tree.format laws.bytes_of laws.cmp peer.tree.root g))
   pub first : AllByRecursion (IsItemOf peer.tree.format laws.bytes_of laws.cmp peer.tree.root (level peer.tree.root + 1)) (whole_item peer.tree.format laws.bytes_of peer.tree.root)
       × ((k : K) (d : List ℕ) → get laws.cmp (pairs peer.tree.root) k ≡ Some d → AnyByRecursion (HasItemAt laws.cmp k) (whole_item peer.tree.format laws.bytes_of peer.tree.root))
-  pub in_gap : (t : Tree K (List ℕ)) (g : Gap K) (k : K) (d : List ℕ) → Fills laws.cmp g t peer.tree.root → IsInGap laws.cmp k g → get laws.cmp (pairs peer.tree.root) k ≡ Some d → get laws.cmp (pairs t) k ≡ Some d
+  pub in_gap : (t : Tree K (List ℕ)) (g : Gap K) (k : K) (d : List ℕ) → Fills laws.cmp g t peer.tree.root → IsInGap laws.cmp k g
+      → get laws.cmp (pairs peer.tree.root) k ≡ Some d → get laws.cmp (pairs t) k ≡ Some d
   pub in_page : (t page : Tree K (List ℕ)) (k : K) (d : List ℕ) → IsMap laws.cmp (pairs t) → IsPageIn page t → get laws.cmp (pairs page) k ≡ Some d → get laws.cmp (pairs t) k ≡ Some d
   pub kept : SameMap laws.cmp (λ d e. d ≡ e) (map_of peer.tree) (tree_map laws (side peer))
   pub up : IsMap laws.cmp (tree_map laws (side local))
@@ -191,7 +201,8 @@ module _ {K V H : Type 0} (laws : Laws K V H) (o : IsTotalOrder laws.cmp) (local
       go k (inl (inr a)) f = inl (inr (any-append (Same laws.cmp k) keys more (inl a)))
       go k (inl (inl i)) f = then_found (f i)
         where
-          then_found : (AnyByRecursion (IsInGap laws.cmp k) gaps' ⊎ AnyByRecursion (Same laws.cmp k) more) ⊎ IsHidden laws (side local) (side peer) k → (AnyByRecursion (IsInGap laws.cmp k) gaps' ⊎ AnyByRecursion (Same laws.cmp k) (keys ++ more)) ⊎ IsHidden laws (side local) (side peer) k
+          then_found : (AnyByRecursion (IsInGap laws.cmp k) gaps' ⊎ AnyByRecursion (Same laws.cmp k) more) ⊎ IsHidden laws (side local) (side peer) k
+              → (AnyByRecursion (IsInGap laws.cmp k) gaps' ⊎ AnyByRecursion (Same laws.cmp k) (keys ++ more)) ⊎ IsHidden laws (side local) (side peer) k
           then_found (inl (inl a)) = inl (inl a)
           then_found (inl (inr a)) = inl (inr (any-append (Same laws.cmp k) keys more (inr a)))
           then_found (inr h) = inr h
@@ -201,8 +212,10 @@ module _ {K V H : Type 0} (laws : Laws K V H) (o : IsTotalOrder laws.cmp) (local
   none_hidden faithful k (d, there, lacks) (s, t, c, (u, (form, same), j), (v, (form', same'), i), digests, f) =
       let maps = faithful s t (u, (form, same), j) (v, (form', same'), i) digests in
       let found : get laws.cmp (pairs s) k ≡ Some c = same_get laws.cmp o (pairs s) (pairs t) maps k ∙ f in
-      let in_local : get laws.cmp (tree_map laws (side local)) k ≡ Some c = sym (same_get laws.cmp o (pairs u) (tree_map laws (side local)) same k) ∙ p.in_page u s k c (ascends laws.cmp o (λ d e. d ≡ e) (pairs u) (tree_map laws (side local)) same p.up) j found in
-      let in_peer : get laws.cmp (tree_map laws (side peer)) k ≡ Some c = sym (same_get laws.cmp o (pairs v) (tree_map laws (side peer)) same' k) ∙ p.in_page v t k c (ascends laws.cmp o (λ d e. d ≡ e) (pairs v) (tree_map laws (side peer)) same' p.up_peer) i f in
+      let in_local : get laws.cmp (tree_map laws (side local)) k ≡ Some c = sym (same_get laws.cmp o (pairs u) (tree_map laws (side local)) same k)
+      ∙ p.in_page u s k c (ascends laws.cmp o (λ d e. d ≡ e) (pairs u) (tree_map laws (side local)) same p.up) j found in
+      let in_peer : get laws.cmp (tree_map laws (side peer)) k ≡ Some c = sym (same_get laws.cmp o (pairs v) (tree_map laws (side peer)) same' k)
+      ∙ p.in_page v t k c (ascends laws.cmp o (λ d e. d ≡ e) (pairs v) (tree_map laws (side peer)) same' p.up_peer) i f in
       lacks (in_local ∙ sym in_peer ∙ there)
 
   -- with no page left, all is found
@@ -213,7 +226,8 @@ module _ {K V H : Type 0} (laws : Laws K V H) (o : IsTotalOrder laws.cmp) (local
     all = λ faithful k l. seen k (go k (u.covered k l)) (none_hidden faithful k l);
   }
     where
-      go : (k : K) → (AnyByRecursion (IsInGap laws.cmp k) gaps ⊎ AnyByRecursion (Same laws.cmp k) keys) ⊎ IsHidden laws (side local) (side peer) k → AnyByRecursion (Same laws.cmp k) keys ⊎ IsHidden laws (side local) (side peer) k
+      go : (k : K) → (AnyByRecursion (IsInGap laws.cmp k) gaps ⊎ AnyByRecursion (Same laws.cmp k) keys) ⊎ IsHidden laws (side local) (side peer) k
+          → AnyByRecursion (Same laws.cmp k) keys ⊎ IsHidden laws (side local) (side peer) k
       go k (inl (inl i)) = absurd (subst (AnyByRecursion (IsInGap laws.cmp k)) none i)
       go k (inl (inr a)) = inl a
       go k (inr h) = inr h
@@ -228,13 +242,20 @@ module _ {K V H : Type 0} (laws : Laws K V H) (o : IsTotalOrder laws.cmp) (local
   some_left n (g ∷ gs) keys u ne = let low = u.pages.0.2 in omega arith
 
 -- the premises, from the laws of trees
-pub premises_from : {K V H : Type 0} (laws : Laws K V H) (o : IsTotalOrder laws.cmp) (local peer : Contents K V H) → IsTreeOfSide laws (side local) (own_tree laws (side local)) → IsMap laws.cmp (map_of peer.tree) → IsCanonicalRoot (λ k. level_of (laws.key_digest peer.tree.hasher k) peer.tree.base) peer.tree.root → SameMap laws.cmp (λ d e. d ≡ e) (map_of peer.tree) (tree_map laws (side peer)) → IsMap laws.cmp local.rows
+pub premises_from : {K V H : Type 0} (laws : Laws K V H) (o : IsTotalOrder laws.cmp) (local peer : Contents K V H)
+    → IsTreeOfSide laws (side local) (own_tree laws (side local)) → IsMap laws.cmp (map_of peer.tree)
+    → IsCanonicalRoot (λ k. level_of (laws.key_digest peer.tree.hasher k) peer.tree.base) peer.tree.root
+    → SameMap laws.cmp (λ d e. d ≡ e) (map_of peer.tree) (tree_map laws (side peer)) → IsMap laws.cmp local.rows
     → ((t page : Tree K (List ℕ)) (g : Gap K) → IsMap laws.cmp (pairs t) → Fills laws.cmp g page t → page_over laws.cmp g t ≡ Some page)
-    → ((hasher : H) (base : ℕ) (format : PageFormat) (t page : Tree K (List ℕ)) (g : Gap K) → IsMap laws.cmp (pairs t) → IsCanonicalRoot (λ k. level_of (laws.key_digest hasher k) base) t → Fills laws.cmp g page t
-    → AllByRecursion (IsItemOf format laws.bytes_of laws.cmp t (level page)) (outline_of format laws.bytes_of g page) × ((k : K) (d : List ℕ) → get laws.cmp (pairs t) k ≡ Some d → IsInGap laws.cmp k g → AnyByRecursion (HasItemAt laws.cmp k) (outline_of format laws.bytes_of g page)))
+    → ((hasher : H) (base : ℕ) (format : PageFormat) (t page : Tree K (List ℕ)) (g : Gap K) → IsMap laws.cmp (pairs t)
+    → IsCanonicalRoot (λ k. level_of (laws.key_digest hasher k) base) t → Fills laws.cmp g page t
+    → AllByRecursion (IsItemOf format laws.bytes_of laws.cmp t (level page)) (outline_of format laws.bytes_of g page)
+    × ((k : K) (d : List ℕ) → get laws.cmp (pairs t) k ≡ Some d → IsInGap laws.cmp k g → AnyByRecursion (HasItemAt laws.cmp k) (outline_of format laws.bytes_of g page)))
     → ((hasher : H) (base : ℕ) (format : PageFormat) (t : Tree K (List ℕ)) → IsMap laws.cmp (pairs t) → IsCanonicalRoot (λ k. level_of (laws.key_digest hasher k) base) t
-    → AllByRecursion (IsItemOf format laws.bytes_of laws.cmp t (level t + 1)) (whole_item format laws.bytes_of t) × ((k : K) (d : List ℕ) → get laws.cmp (pairs t) k ≡ Some d → AnyByRecursion (HasItemAt laws.cmp k) (whole_item format laws.bytes_of t)))
-    → ((t page : Tree K (List ℕ)) (g : Gap K) (k : K) (d : List ℕ) → IsMap laws.cmp (pairs t) → Fills laws.cmp g page t → IsInGap laws.cmp k g → get laws.cmp (pairs t) k ≡ Some d → get laws.cmp (pairs page) k ≡ Some d)
+    → AllByRecursion (IsItemOf format laws.bytes_of laws.cmp t (level t + 1)) (whole_item format laws.bytes_of t)
+    × ((k : K) (d : List ℕ) → get laws.cmp (pairs t) k ≡ Some d → AnyByRecursion (HasItemAt laws.cmp k) (whole_item format laws.bytes_of t)))
+    → ((t page : Tree K (List ℕ)) (g : Gap K) (k : K) (d : List ℕ) → IsMap laws.cmp (pairs t) → Fills laws.cmp g page t → IsInGap laws.cmp k g
+    → get laws.cmp (pairs t) k ≡ Some d → get laws.cmp (pairs page) k ≡ Some d)
     → ((t page : Tree K (List ℕ)) (k : K) (d : List ℕ) → IsMap laws.cmp (pairs t) → IsPageIn page t → get laws.cmp (pairs page) k ≡ Some d → get laws.cmp (pairs t) k ≡ Some d)
     → Premises laws local peer
 premises_from {K} laws o local peer own_is ascending form kept up opens over whole in_gap within = record {

@@ -29,14 +29,16 @@ key_at {K = K} P ks i k h e a = subst (λ x. P x.now) (sym e) (go ks i h a)
     go (x ∷ xs) (suc n) h a = go xs n (omega arith) a.1
 
 module _ {K V : Type 0} (cmp : K → K → Ordering) (o : IsTotalOrder cmp) (eq : V → V → Bool) where
-  copies_more : (rows : List (K × V)) (ks : List K) (cs : List (K × V)) (k : K) (c : K × V) → AreCopies cmp eq rows ks cs → Same cmp c.0 k → (v : V) × (get cmp rows k ≡ Some v) × (eq c.1 v ≡ true) → AreCopies cmp eq rows (ks ++ k ∷ []) (cs ++ c ∷ [])
+  copies_more : (rows : List (K × V)) (ks : List K) (cs : List (K × V)) (k : K) (c : K × V) → AreCopies cmp eq rows ks cs → Same cmp c.0 k → (v : V)
+      × (get cmp rows k ≡ Some v) × (eq c.1 v ≡ true) → AreCopies cmp eq rows (ks ++ k ∷ []) (cs ++ c ∷ [])
   copies_more rows [] [] k c a s h = (s, h, tt)
   copies_more rows [] (d ∷ cs) k c a s h = absurd a
   copies_more rows (j ∷ ks) [] k c a s h = absurd a
   copies_more rows (j ∷ ks) (d ∷ cs) k c a s h = (a.0, a.1, copies_more rows ks cs k c a.2 s h)
 
   -- one copy more
-  pub copies_step : (rows : List (K × V)) (ks : List (Bor K)) (i : ℕ) (k : Bor K) (cs cs' : List (K × V)) (c : K × V) → i < length ks → k ≡ get_or ks i k → cs' ≡ cs ++ c ∷ [] → AreCopies cmp eq rows (keys_of (take i ks)) cs
+  pub copies_step : (rows : List (K × V)) (ks : List (Bor K)) (i : ℕ) (k : Bor K) (cs cs' : List (K × V)) (c : K × V) → i < length ks → k ≡ get_or ks i k
+      → cs' ≡ cs ++ c ∷ [] → AreCopies cmp eq rows (keys_of (take i ks)) cs
       → Same cmp c.0 k.now × ((v : V) × (get cmp rows k.now ≡ Some v) × (eq c.1 v ≡ true)) → AreCopies cmp eq rows (keys_of (take (i + 1) ks)) cs'
   copies_step rows ks i k cs cs' c h e r a b =
       subst (λ js. AreCopies cmp eq rows js cs') (sym (map_more (λ j. j.now) ks i k h e))
@@ -48,7 +50,8 @@ module _ {K V : Type 0} (cmp : K → K → Ordering) (o : IsTotalOrder cmp) (eq 
   copies_length rows (k ∷ ks) [] a = absurd a
   copies_length rows (k ∷ ks) (c ∷ cs) a = ap suc (copies_length rows ks cs a.2)
 
-  all_above : (rows : List (K × V)) (k : K) (c : K × V) (ks : List K) (cs : List (K × V)) → Same cmp c.0 k → AllByRecursion (λ j. Below cmp k j) ks → AreCopies cmp eq rows ks cs → AllByRecursion (λ s. Below cmp c.0 s.0) cs
+  all_above : (rows : List (K × V)) (k : K) (c : K × V) (ks : List K) (cs : List (K × V)) → Same cmp c.0 k → AllByRecursion (λ j. Below cmp k j) ks
+      → AreCopies cmp eq rows ks cs → AllByRecursion (λ s. Below cmp c.0 s.0) cs
   all_above rows k c [] [] s b a = tt
   all_above rows k c [] (d ∷ cs) s b a = absurd a
   all_above rows k c (j ∷ ks) [] s b a = absurd a
@@ -63,7 +66,8 @@ module _ {K V : Type 0} (cmp : K → K → Ordering) (o : IsTotalOrder cmp) (eq 
   copies_map rows (k ∷ ks) (c ∷ cs) u a = (all_above rows k c ks cs a.0 u.0 a.2, copies_map rows ks cs u.1 a.2)
 
   -- what the copies have at a key
-  get_copies : (rows : List (K × V)) (ks : List K) (cs : List (K × V)) (q : K) → AreCopies cmp eq rows ks cs → SameValue (λ x y. eq x y ≡ true) (get cmp cs q) (cond (is_covered cmp q (points ks)) (get cmp rows q) None)
+  get_copies : (rows : List (K × V)) (ks : List K) (cs : List (K × V)) (q : K) → AreCopies cmp eq rows ks cs
+      → SameValue (λ x y. eq x y ≡ true) (get cmp cs q) (cond (is_covered cmp q (points ks)) (get cmp rows q) None)
   get_copies rows [] [] q a = tt
   get_copies rows [] (c ∷ cs) q a = absurd a
   get_copies rows (k ∷ ks) [] q a = absurd a
@@ -80,7 +84,8 @@ module _ {K V : Type 0} (cmp : K → K → Ordering) (o : IsTotalOrder cmp) (eq 
           rw (e, inside, sym (get_same cmp o rows k q s), a.1.1) a.1.2
       go (inl e) more = by (which (is_in cmp q (record { first = k; last = k })))
         where
-          by : (is_in cmp q (record { first = k; last = k }) ≡ false) ⊎ (is_in cmp q (record { first = k; last = k }) ≡ true) → SameValue (λ x y. eq x y ≡ true) (get cmp (c ∷ cs) q) (cond (is_covered cmp q (points (k ∷ ks))) (get cmp rows q) None)
+          by : (is_in cmp q (record { first = k; last = k }) ≡ false) ⊎ (is_in cmp q (record { first = k; last = k }) ≡ true)
+              → SameValue (λ x y. eq x y ≡ true) (get cmp (c ∷ cs) q) (cond (is_covered cmp q (points (k ∷ ks))) (get cmp rows q) None)
           by (inl f) = rw (e, f) more
           by (inr f) =
               let i = in_from_test cmp o q (record { first = k; last = k }) f in
@@ -90,7 +95,8 @@ module _ {K V : Type 0} (cmp : K → K → Ordering) (o : IsTotalOrder cmp) (eq 
               absurd (cc)
 
   -- so they are the rows at the keys
-  pub copies_are : (rows : List (K × V)) (ks : List K) (cs : List (K × V)) → IsMap cmp rows → IsAscending cmp ks → AreCopies cmp eq rows ks cs → SameMap cmp (λ x y. eq x y ≡ true) cs (rows_in cmp (points ks) rows)
+  pub copies_are : (rows : List (K × V)) (ks : List K) (cs : List (K × V)) → IsMap cmp rows → IsAscending cmp ks → AreCopies cmp eq rows ks cs
+      → SameMap cmp (λ x y. eq x y ≡ true) cs (rows_in cmp (points ks) rows)
   copies_are rows ks cs m u a =
       same_by_get cmp o (λ x y. eq x y ≡ true) cs (rows_in cmp (points ks) rows) (copies_map rows ks cs u a) (map_at cmp o (λ k. is_covered cmp k (points ks)) rows m)
       (λ q. subst (SameValue (λ x y. eq x y ≡ true) (get cmp cs q)) (sym (get_at cmp o (λ k. is_covered cmp k (points ks)) (is_covered-same cmp o (points ks)) rows q)) (get_copies rows ks cs q a))
@@ -104,7 +110,8 @@ module _ {K V : Type 0} (cmp : K → K → Ordering) (o : IsTotalOrder cmp) wher
   take_same R (suc n) (x ∷ xs) (y ∷ ys) s = (s.0, s.1, take_same R n xs ys s.2)
 
   -- equal rows do as well
-  pub join_same : (eq : V → V → Bool) (e : IsEquivalence eq) (join : V → V → V) (j : IsJoining eq join) (a xs ys c : List (K × V)) → SameMap cmp (λ x y. eq x y ≡ true) xs ys → IsJoin cmp eq join a xs c → IsJoin cmp eq join a ys c
+  pub join_same : (eq : V → V → Bool) (e : IsEquivalence eq) (join : V → V → V) (j : IsJoining eq join) (a xs ys c : List (K × V))
+      → SameMap cmp (λ x y. eq x y ≡ true) xs ys → IsJoin cmp eq join a xs c → IsJoin cmp eq join a ys c
   join_same eq e join j a xs ys c s p = record {
     ascending = p.ascending;
     values = λ k.

@@ -71,7 +71,8 @@ module _ {K V : Type 0} (cmp : K → K → Ordering) (o : IsTotalOrder cmp) wher
 
   -- the row at the place has the key: another value there
   pub at-next : (front back : List (K × V)) (n : ℕ) (key : K) (r d : K × V) (v : V) → suc n ≡ length back → r ≡ get_or back n r → first_is cmp key (reverse back) ≡ true
-      → IsPlaceOf cmp key (whole front back) (length front) × (r ≡ get_or (whole front back) (length front) r) × (whole front (list_set back n (r.0, v)) ≡ list_set (whole front back) (length front) (r.0, v))
+      → IsPlaceOf cmp key (whole front back) (length front) × (r ≡ get_or (whole front back) (length front) r)
+      × (whole front (list_set back n (r.0, v)) ≡ list_set (whole front back) (length front) (r.0, v))
   at-next front back n key r d v e read is =
       let p = last-parts back n r (r.0, v) e in
       let same : cmp r.0 key ≡ Equal = is_equal (cmp r.0 key) (sym (next-is key back n r e read) ∙ is) in
@@ -89,11 +90,15 @@ module _ {K V : Type 0} (cmp : K → K → Ordering) (o : IsTotalOrder cmp) wher
   highs key [] m n f = tt
   highs key (r ∷ rs) m n f =
       let g : cmp r.0 key ≡ Greater = greater (cmp r.0 key) n f in
-      let less : cmp key r.0 ≡ Less = o.antisymm key r.0 ∙ ap ordering_reverse g in
-      (g, each-with (λ s. Below cmp r.0 s.0) (λ s. cmp s.0 key ≡ Greater) rs (λ s b. o.antisymm s.0 key ∙ ap ordering_reverse (is_less (cmp key s.0) (low_low cmp o key r.0 s.0 (ap is_lt less) b))) m.0)
+      let less : cmp key r.0 ≡ Less = o.antisymm key r.0 ∙ ap ordering_reverse g in (
+        g,
+        each-with (λ s. Below cmp r.0 s.0) (λ s. cmp s.0 key ≡ Greater) rs
+            (λ s b. o.antisymm s.0 key ∙ ap ordering_reverse (is_less (cmp key s.0) (low_low cmp o key r.0 s.0 (ap is_lt less) b))) m.0,
+      )
 
   -- no row has the key: a new one at the place
-  pub at-gap : (front back : List (K × V)) (key : K) (v : V) → AllByRecursion (λ s. Below cmp s.0 key) front → IsMap cmp (whole front back) → FirstNotBelow cmp key (reverse back) → first_is cmp key (reverse back) ≡ false
+  pub at-gap : (front back : List (K × V)) (key : K) (v : V) → AllByRecursion (λ s. Below cmp s.0 key) front → IsMap cmp (whole front back)
+      → FirstNotBelow cmp key (reverse back) → first_is cmp key (reverse back) ≡ false
       → IsGapFor cmp key (whole front back) (length front) × (whole front (back ++ (key, v) ∷ []) ≡ insert (whole front back) (length front) (key, v))
   at-gap front back key v low m n f =
       let l : length (whole front back) ≡ length front + length (reverse back) = length-append front (reverse back) in (
@@ -112,11 +117,13 @@ module _ {K V : Type 0} (cmp : K → K → Ordering) (o : IsTotalOrder cmp) wher
   low-same k l rows e = low-further k l rows (same_up cmp o k l e)
 
   -- rows below a key are below all that don't fall after it
-  pub low-all : (k : K) (front rows : List (K × V)) → AllByRecursion (λ s. Below cmp s.0 k) front → AllByRecursion (λ r. Upto cmp k r.0) rows → AllByRecursion (λ r. AllByRecursion (λ s. Below cmp s.0 r.0) front) rows
+  pub low-all : (k : K) (front rows : List (K × V)) → AllByRecursion (λ s. Below cmp s.0 k) front → AllByRecursion (λ r. Upto cmp k r.0) rows
+      → AllByRecursion (λ r. AllByRecursion (λ s. Below cmp s.0 r.0) front) rows
   low-all k front rows low = each-with (λ r. Upto cmp k r.0) (λ r. AllByRecursion (λ s. Below cmp s.0 r.0) front) rows (λ r u. low-further k r.0 front u low)
 
   -- rows below the first of rising rows are below all of these
-  pub low_first : (theirs : List (K × V)) (r : K × V) (front : List (K × V)) → r ≡ get_or theirs 0 r → IsRising cmp theirs → AllByRecursion (λ s. Below cmp s.0 r.0) front → AllByRecursion (λ t. AllByRecursion (λ s. Below cmp s.0 t.0) front) theirs
+  pub low_first : (theirs : List (K × V)) (r : K × V) (front : List (K × V)) → r ≡ get_or theirs 0 r → IsRising cmp theirs
+      → AllByRecursion (λ s. Below cmp s.0 r.0) front → AllByRecursion (λ t. AllByRecursion (λ s. Below cmp s.0 t.0) front) theirs
   low_first [] r front e up low = tt
   low_first (t ∷ theirs) r front e up low =
       let here : AllByRecursion (λ s. Below cmp s.0 t.0) front = subst (λ (q : K × V). AllByRecursion (λ s. Below cmp s.0 q.0) front) e low in
@@ -127,7 +134,8 @@ module _ {K V : Type 0} (cmp : K → K → Ordering) (o : IsTotalOrder cmp) wher
   next-some key (r ∷ rs) e = omega arith
 
   -- no row is joined yet
-  pub stopped-none : (eq : V → V → Bool) (e : IsEquivalence eq) (join : V → V → V) (j : IsJoining eq join) (wanted old now : List (K × V)) (joined : ℕ) → joined ≡ length wanted → 0 < joined → now ≡ old → IsMap cmp old → IsPartlyDone cmp eq join wanted old 0 joined now
+  pub stopped-none : (eq : V → V → Bool) (e : IsEquivalence eq) (join : V → V → V) (j : IsJoining eq join) (wanted old now : List (K × V)) (joined : ℕ)
+      → joined ≡ length wanted → 0 < joined → now ≡ old → IsMap cmp old → IsPartlyDone cmp eq join wanted old 0 joined now
   stopped-none eq e join j wanted old now joined n s p m = record {
     counted = n;
     not_all = s;

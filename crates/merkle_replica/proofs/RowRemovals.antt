@@ -19,7 +19,8 @@ module _ {K V D : Type 0} (cmp : K → K → Ordering) (o : IsTotalOrder cmp) (h
   digests_del [] (r ∷ rs) k h = absurd h
   digests_del (p ∷ ps) [] k h = absurd h
   digests_del (p ∷ ps) (r ∷ rs) k h =
-      subst (λ q. SameMap cmp (λ d c. d ≡ c) (cond (not (is_eq q)) (p ∷ del cmp ps k) (del cmp ps k)) (digests hash (del cmp (r ∷ rs) k))) (sym (alike_right o p.0 r.0 k h.0)) (by (cmp k r.0) (digests_del ps rs k h.2))
+      subst (λ q. SameMap cmp (λ d c. d ≡ c) (cond (not (is_eq q)) (p ∷ del cmp ps k) (del cmp ps k)) (digests hash (del cmp (r ∷ rs) k)))
+      (sym (alike_right o p.0 r.0 k h.0)) (by (cmp k r.0) (digests_del ps rs k h.2))
     where
       by : (q : Ordering) → SameMap cmp (λ d c. d ≡ c) (del cmp ps k) (digests hash (del cmp rs k))
           → SameMap cmp (λ d c. d ≡ c) (cond (not (is_eq q)) (p ∷ del cmp ps k) (del cmp ps k)) (digests hash (cond (not (is_eq q)) (r ∷ del cmp rs k) (del cmp rs k)))

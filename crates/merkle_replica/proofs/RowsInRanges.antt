@@ -22,7 +22,8 @@ module _ {K : Type 0} (cmp : K → K → Ordering) (o : IsTotalOrder cmp) where
   pub left_all : {V : Type 0} (ss : List (Span K)) (rows : List (K × V)) → IsApart cmp ss → Left ss rows [] ss 0
   left_all ss rows a = record { apart = a; rest = refl }
 
-  module _ {V : Type 0} (ss : List (Span K)) (rows seen : List (K × V)) (left next : List (Span K)) (i : ℕ) (r : K × V) (m : IsMap cmp rows) (inside : i < length rows) (read : r ≡ get_or rows i r) (l : Left ss rows seen left i) (sought : next ≡ ranges_from cmp r.0 left) where
+  module _ {V : Type 0} (ss : List (Span K)) (rows seen : List (K × V)) (left next : List (Span K)) (i : ℕ) (r : K × V) (m : IsMap cmp rows)
+      (inside : i < length rows) (read : r ≡ get_or rows i r) (l : Left ss rows seen left i) (sought : next ≡ ranges_from cmp r.0 left) where
     here : drop i rows ≡ r ∷ drop (suc i) rows
     here = from_place cmp o rows i r inside ∙ ap (λ q. q ∷ drop (suc i) rows) (sym read)
 
@@ -60,7 +61,8 @@ module _ {K : Type 0} (cmp : K → K → Ordering) (o : IsTotalOrder cmp) where
   pub counts_none : {V : Type 0} (ss : List (Span K)) (rows : List (K × V)) → IsApart cmp ss → Counts ss rows ss 0 0
   counts_none ss rows a = record { seen = []; left_over = left_all ss rows a; counted = refl }
 
-  pub counts_more : {V : Type 0} (ss : List (Span K)) (rows : List (K × V)) (left next : List (Span K)) (i count : ℕ) (r : K × V) (b : Bool) → IsMap cmp rows → i < length rows → r ≡ get_or rows i r → Counts ss rows left i count → next ≡ ranges_from cmp r.0 left → b ≡ begins_upto cmp r.0 next
+  pub counts_more : {V : Type 0} (ss : List (Span K)) (rows : List (K × V)) (left next : List (Span K)) (i count : ℕ) (r : K × V) (b : Bool) → IsMap cmp rows
+      → i < length rows → r ≡ get_or rows i r → Counts ss rows left i count → next ≡ ranges_from cmp r.0 left → b ≡ begins_upto cmp r.0 next
       → Counts ss rows next (i + 1) (cond b (count + 1) count)
   counts_more ss rows left next i count r false m inside read c sought b = record {
     seen = c.seen;
@@ -88,7 +90,8 @@ module _ {K : Type 0} (cmp : K → K → Ordering) (o : IsTotalOrder cmp) where
     pub joins_none : (ss : List (Span K)) (rows old : List (K × V)) → IsApart cmp ss → IsMap cmp old → Joins ss rows ss 0 old 0 old
     joins_none ss rows old a m = record { seen = []; left_over = left_all ss rows a; counted = refl; joins = join_none cmp o eq e join j old m; unchanged = λ z. refl }
 
-    module _ (ss : List (Span K)) (rows : List (K × V)) (left next : List (Span K)) (i : ℕ) (r : K × V) (m : IsMap cmp rows) (inside : i < length rows) (read : r ≡ get_or rows i r) (sought : next ≡ ranges_from cmp r.0 left) (old now : List (K × V)) (done : ℕ) (p : Joins ss rows left i old done now) where
+    module _ (ss : List (Span K)) (rows : List (K × V)) (left next : List (Span K)) (i : ℕ) (r : K × V) (m : IsMap cmp rows) (inside : i < length rows)
+        (read : r ≡ get_or rows i r) (sought : next ≡ ranges_from cmp r.0 left) (old now : List (K × V)) (done : ℕ) (p : Joins ss rows left i old done now) where
       -- a row beside the ranges
       pub joins_past : begins_upto cmp r.0 next ≡ false → Joins ss rows next (i + 1) old done now
       joins_past b = record {
@@ -123,7 +126,8 @@ module _ {K : Type 0} (cmp : K → K → Ordering) (o : IsTotalOrder cmp) where
             unchanged = p.unchanged;
           }
 
-    pub all_done : (ss : List (Span K)) (rows : List (K × V)) (left : List (Span K)) (i : ℕ) (old now : List (K × V)) (done : ℕ) → length rows ≤ i → Joins ss rows left i old done now → IsDone cmp eq join (rows_in cmp ss rows) old done now
+    pub all_done : (ss : List (Span K)) (rows : List (K × V)) (left : List (Span K)) (i : ℕ) (old now : List (K × V)) (done : ℕ) → length rows ≤ i
+        → Joins ss rows left i old done now → IsDone cmp eq join (rows_in cmp ss rows) old done now
     all_done ss rows left i old now done n p =
         let w = left_none ss rows p.seen left i n p.left_over in
         record { counted = sym (ap length w ∙ p.counted); joins = subst (λ t. IsJoin cmp eq join old t now) (sym w) p.joins }

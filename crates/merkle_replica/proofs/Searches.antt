@@ -13,7 +13,8 @@ use Rattle.key_order.proofs.Values.{Eq}
 
 module _ {K V : Type 0} (cmp : K → K → Ordering) (o : IsTotalOrder cmp) where
   -- another value at the key's place
-  pub set_there : (rows : List (K × V)) (at : ℕ) (row : K × V) (key : K) (v : V) → IsMap cmp rows → IsPlaceOf cmp key rows at → row ≡ get_or rows at row → list_set rows at (row.0, v) ≡ set cmp rows key v
+  pub set_there : (rows : List (K × V)) (at : ℕ) (row : K × V) (key : K) (v : V) → IsMap cmp rows → IsPlaceOf cmp key rows at → row ≡ get_or rows at row
+      → list_set rows at (row.0, v) ≡ set cmp rows key v
   set_there rows at row key v up place read =
       ap (λ (r : K × V). list_set rows at (r.0, v)) read ∙ sym (set_at_place cmp o rows at key v row up place.in_range (place.here row))
 

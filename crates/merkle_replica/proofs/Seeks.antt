@@ -91,7 +91,9 @@ module _ {K : Type 0} (cmp : K → K → Ordering) (o : IsTotalOrder cmp) where
     -- one row more
     pub swept : (ss tt' : List (Span K)) (r : K × V) (rows : List (K × V)) → IsApart cmp ss → IsMap cmp (r ∷ rows) → tt' ≡ ranges_from cmp r.0 ss
         → rows_in cmp ss (r ∷ rows) ≡ cond (begins_upto cmp r.0 tt') (r ∷ rows_in cmp tt' rows) (rows_in cmp tt' rows)
-    swept ss tt' r rows a m e = rw e (rows_from ss r.0 (r ∷ rows) (up_self cmp o r.0, each-with (λ s. Below cmp r.0 s.0) (λ s. Upto cmp r.0 s.0) rows (λ s b. low_is_up cmp o r.0 s.0 b) m.0) ∙ rw (covered_first ss r.0 a) refl)
+    swept ss tt' r rows a m e = rw e
+        (rows_from ss r.0 (r ∷ rows)
+        (up_self cmp o r.0, each-with (λ s. Below cmp r.0 s.0) (λ s. Upto cmp r.0 s.0) rows (λ s b. low_is_up cmp o r.0 s.0 b) m.0) ∙ rw (covered_first ss r.0 a) refl)
 
     -- the rows from a place on
     pub from_place : (rows : List (K × V)) (i : ℕ) (d : K × V) → i < length rows → drop i rows ≡ get_or rows i d ∷ drop (suc i) rows
@@ -181,7 +183,8 @@ module _ {K : Type 0} (cmp : K → K → Ordering) (o : IsTotalOrder cmp) where
 
   module _ {V : Type 0} where
     -- rows below the first bound are below each key that the first range begins at or below
-    pub first_low : (rs : List (K × K)) (d : K × K) (k : K) (rows : List (K × V)) → begins_upto cmp k (spans_of rs) ≡ true → AllByRecursion (λ s. Below cmp s.0 (get_or rs 0 d).0) rows → AllByRecursion (λ s. Below cmp s.0 k) rows
+    pub first_low : (rs : List (K × K)) (d : K × K) (k : K) (rows : List (K × V)) → begins_upto cmp k (spans_of rs) ≡ true
+        → AllByRecursion (λ s. Below cmp s.0 (get_or rs 0 d).0) rows → AllByRecursion (λ s. Below cmp s.0 k) rows
     first_low [] d k rows h all = absurd (cc)
     first_low (q ∷ rs) d k rows h all = each-with (λ s. Below cmp s.0 q.0) (λ s. Below cmp s.0 k) rows (λ s b. low_up cmp o s.0 q.0 k b (by_upto cmp o q.0 k h)) all
 
@@ -191,7 +194,8 @@ module _ {K : Type 0} (cmp : K → K → Ordering) (o : IsTotalOrder cmp) where
   spans_at (q ∷ rs) (suc i) r d h e = spans_at rs i r d (omega arith) e
 
   -- a range that ends below the key is passed
-  pub seek_past : (rs : List (K × K)) (i : ℕ) (d : K × K) (k : K) → i < length rs → below cmp (get_or rs i d).1 k ≡ true → ranges_from cmp k (drop i (spans_of rs)) ≡ ranges_from cmp k (drop (i + 1) (spans_of rs))
+  pub seek_past : (rs : List (K × K)) (i : ℕ) (d : K × K) (k : K) → i < length rs → below cmp (get_or rs i d).1 k ≡ true
+      → ranges_from cmp k (drop i (spans_of rs)) ≡ ranges_from cmp k (drop (i + 1) (spans_of rs))
   seek_past rs i d k h b = ap (ranges_from cmp k) (spans_at rs i (get_or rs i d) d h refl) ∙ (rw b refl) ∙ ap (λ n. ranges_from cmp k (drop n (spans_of rs))) (sym (add-one i))
 
   -- the first that doesn't is where the search ends

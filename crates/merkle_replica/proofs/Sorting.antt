@@ -46,7 +46,9 @@ module _ {K V : Type 0} (cmp : K → K → Ordering) (o : IsTotalOrder cmp) wher
   sorted_rises [] s = tt
   sorted_rises (r ∷ []) s = (tt, tt)
   sorted_rises (r ∷ q ∷ rs) s =
-      let rest = sorted_rises (q ∷ rs) (λ k d from to. subst (λ n. lower (get_or (q ∷ rs) n d) (get_or (q ∷ rs) k d) ≡ false) (sym (add-one k)) (subst (λ n. lower (get_or (r ∷ q ∷ rs) n d) (get_or (q ∷ rs) k d) ≡ false) (add-one (suc k)) (s (suc k) d (omega arith) (omega arith)))) in
+      let rest = sorted_rises (q ∷ rs)
+      (λ k d from to. subst (λ n. lower (get_or (q ∷ rs) n d) (get_or (q ∷ rs) k d) ≡ false) (sym (add-one k))
+      (subst (λ n. lower (get_or (r ∷ q ∷ rs) n d) (get_or (q ∷ rs) k d) ≡ false) (add-one (suc k)) (s (suc k) d (omega arith) (omega arith)))) in
       let here : Upto cmp r.0 q.0 = not_lower cmp o q.0 r.0 (s 0 r (omega arith) (omega arith)) in
       ((here, each-with (λ s. Upto cmp q.0 s.0) (λ s. Upto cmp r.0 s.0) rs (λ s u. up_up cmp o r.0 q.0 s.0 here u) rest.0), rest)
 
@@ -55,7 +57,8 @@ module _ {K V : Type 0} (cmp : K → K → Ordering) (o : IsTotalOrder cmp) wher
   gathered_tied eq join x [] = refl
   gathered_tied eq join x (r ∷ rows) = go (ties lower x r) refl (gathered_tied eq join x rows)
     where
-      go : (b : Bool) → ties lower x r ≡ b → join_of_values cmp eq join rows x.0 ≡ join_of_values cmp eq join (filter (ties lower x) rows) x.0 → join_of_values cmp eq join (r ∷ rows) x.0 ≡ join_of_values cmp eq join (cond b (r ∷ filter (ties lower x) rows) (filter (ties lower x) rows)) x.0
+      go : (b : Bool) → ties lower x r ≡ b → join_of_values cmp eq join rows x.0 ≡ join_of_values cmp eq join (filter (ties lower x) rows) x.0
+          → join_of_values cmp eq join (r ∷ rows) x.0 ≡ join_of_values cmp eq join (cond b (r ∷ filter (ties lower x) rows) (filter (ties lower x) rows)) x.0
       go true t e = ap (joined join (cond (is_eq (cmp r.0 x.0)) (Some r.1) None)) e
       go false t e = ap (λ b. joined join (cond b (Some r.1) None) (join_of_values cmp eq join rows x.0)) (other (is_eq (cmp r.0 x.0)) refl) ∙ e
         where
@@ -64,11 +67,13 @@ module _ {K V : Type 0} (cmp : K → K → Ordering) (o : IsTotalOrder cmp) wher
           other true h = let u : true ≡ false = sym (tied (cmp r.0 x.0) (cmp x.0 r.0) h (o.antisymm x.0 r.0)) ∙ t in absurd (cc)
 
   -- rows that a stable sort has moved gather the same
-  pub gathered_sorted : (eq : V → V → Bool) (join : V → V → V) (rows sorted : List (K × V)) → length sorted ≡ length rows → IsStableBy lower rows sorted → (k : K) → join_of_values cmp eq join sorted k ≡ join_of_values cmp eq join rows k
+  pub gathered_sorted : (eq : V → V → Bool) (join : V → V → V) (rows sorted : List (K × V)) → length sorted ≡ length rows → IsStableBy lower rows sorted
+      → (k : K) → join_of_values cmp eq join sorted k ≡ join_of_values cmp eq join rows k
   gathered_sorted eq join [] [] n s k = refl
   gathered_sorted eq join [] (x ∷ sorted) n s k = absurd (omega (arith, n))
   gathered_sorted eq join (r ∷ rows) sorted n s k =
       gathered_tied eq join (k, r.1) sorted ∙ ap (λ xs. join_of_values cmp eq join xs k) (s (k, r.1)) ∙ sym (gathered_tied eq join (k, r.1) (r ∷ rows))
 
-  pub gathers_sorted : (eq : V → V → Bool) (join : V → V → V) (before rows sorted after : List (K × V)) → length sorted ≡ length rows → IsStableBy lower rows sorted → HasGathered cmp eq join before sorted after → HasGathered cmp eq join before rows after
+  pub gathers_sorted : (eq : V → V → Bool) (join : V → V → V) (before rows sorted after : List (K × V)) → length sorted ≡ length rows
+      → IsStableBy lower rows sorted → HasGathered cmp eq join before sorted after → HasGathered cmp eq join before rows after
   gathers_sorted eq join before rows sorted after n s h = record { ascending = h.ascending; values = λ k. rw (← gathered_sorted eq join rows sorted n s k) (h.values k) }

@@ -12,7 +12,8 @@ use Rattle.merkle_replica.specs.Contents.{IsKept}
 
 module _ {K V D : Type 0} (cmp : K → K → Ordering) (o : IsTotalOrder cmp) (hash : V → D) where
   -- a key and an equal one set on both sides
-  pub digests_set : (m : List (K × D)) (rows : List (K × V)) (k l : K) (v : V) → Same cmp k l → SameMap cmp (λ d c. d ≡ c) m (digests hash rows) → SameMap cmp (λ d c. d ≡ c) (set cmp m k (hash v)) (digests hash (set cmp rows l v))
+  pub digests_set : (m : List (K × D)) (rows : List (K × V)) (k l : K) (v : V) → Same cmp k l → SameMap cmp (λ d c. d ≡ c) m (digests hash rows)
+      → SameMap cmp (λ d c. d ≡ c) (set cmp m k (hash v)) (digests hash (set cmp rows l v))
   digests_set [] [] k l v s h = (s, refl, tt)
   digests_set [] (r ∷ rs) k l v s h = absurd h
   digests_set (p ∷ ps) [] k l v s h = absurd h
@@ -21,7 +22,8 @@ module _ {K V D : Type 0} (cmp : K → K → Ordering) (o : IsTotalOrder cmp) (h
       here : cmp k p.0 ≡ cmp l r.0
       here = o.congr k l p.0 s ∙ alike_right o p.0 r.0 l h.0
 
-      go : SameMap cmp (λ d c. d ≡ c) (set cmp ps k (hash v)) (digests hash (set cmp rs l v)) → (w : Ordering) → cmp l r.0 ≡ w → SameMap cmp (λ d c. d ≡ c) (set cmp (p ∷ ps) k (hash v)) (digests hash (set cmp (r ∷ rs) l v))
+      go : SameMap cmp (λ d c. d ≡ c) (set cmp ps k (hash v)) (digests hash (set cmp rs l v)) → (w : Ordering) → cmp l r.0 ≡ w
+          → SameMap cmp (λ d c. d ≡ c) (set cmp (p ∷ ps) k (hash v)) (digests hash (set cmp (r ∷ rs) l v))
       go f Less w = rw (here ∙ w, w) (s, refl, (h.0, h.1, h.2))
       go f Equal w = rw (here ∙ w, w) (h.0, refl, h.2)
       go f Greater w = rw (here ∙ w, w) (h.0, h.1, f)
@@ -37,7 +39,8 @@ module _ {K V H : Type 0} (cmp : K → K → Ordering) (digest_of : H → V → 
   }
 
   -- a row is set, and its digest in the tree at an equal key
-  pub kept_set : IsTotalOrder cmp → (rows rows' : List (K × V)) (old new : State K H) (k key : K) (v : V) → rows' ≡ set cmp rows key v → map_of new ≡ set cmp (map_of old) k (digest_of old.hasher v) → new.hasher ≡ old.hasher → Same cmp k key
+  pub kept_set : IsTotalOrder cmp → (rows rows' : List (K × V)) (old new : State K H) (k key : K) (v : V) → rows' ≡ set cmp rows key v
+      → map_of new ≡ set cmp (map_of old) k (digest_of old.hasher v) → new.hasher ≡ old.hasher → Same cmp k key
       → IsKept cmp digest_of (record { rows = rows; tree = old }) → IsKept cmp digest_of (record { rows = rows'; tree = new })
   kept_set o rows rows' old new k key v r m h s kept =
       record {

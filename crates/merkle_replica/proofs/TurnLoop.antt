@@ -22,19 +22,24 @@ one_more f (z ∷ zs) x ys = ap (λ w. f z ∷ w) (one_more f zs x ys)
 
 module _ {K V H : Type 0} (laws : Laws K V H) where
   -- the turns so far, where p pulls next, and then q: whatever follows, `Whole` holds of all answers and of the rows that are left, and `Stopped` where a fault comes at last
-  pub record Turns (Whole : List (Answer K) → List (K × V) → List (K × V) → Type 0) (Stopped : List (Pulled K) → PullError K → List (K × V) → List (K × V) → Type 0) (done : List (Pulled K)) (p q : Contents K V H) : Type 0 where
+  pub record Turns (Whole : List (Answer K) → List (K × V) → List (K × V) → Type 0)
+      (Stopped : List (Pulled K) → PullError K → List (K × V) → List (K × V) → Type 0) (done : List (Pulled K)) (p q : Contents K V H) : Type 0 where
     pub follows : (qs : List (Answer K)) (p' q' : List (K × V)) (met : List (Side K V H × Side K V H)) → IsByTurns laws qs (side p) (side q) p' q' met → Whole (map answer_of done ++ qs) p' q'
     pub stops : (ps : List (Pulled K)) (fault : PullError K) (p' q' : List (K × V)) → StopsByTurns laws ps fault (side p) (side q) p' q' → Stopped (done ++ ps) fault p' q'
 
-  module _ (Whole : List (Answer K) → List (K × V) → List (K × V) → Type 0) (Stopped : List (Pulled K) → PullError K → List (K × V) → List (K × V) → Type 0) (done : List (Pulled K)) (p q : Contents K V H) (t : Turns Whole Stopped done p q) where
+  module _ (Whole : List (Answer K) → List (K × V) → List (K × V) → Type 0) (Stopped : List (Pulled K) → PullError K → List (K × V) → List (K × V) → Type 0)
+      (done : List (Pulled K)) (p q : Contents K V H) (t : Turns Whole Stopped done p q) where
     -- one more turn
-    turn : (p1 q1 : Contents K V H) (pulled : Pulled K) → SameSettings p.tree p1.tree → SameSettings q.tree q1.tree → IsPull laws (side p) (side q) (answer_of pulled) p1.rows × (q1.rows ≡ q.rows) → Turns (λ qs x y. Whole qs y x) (λ ps fault x y. Stopped ps fault y x) (done ++ pulled ∷ []) q1 p1
+    turn : (p1 q1 : Contents K V H) (pulled : Pulled K) → SameSettings p.tree p1.tree → SameSettings q.tree q1.tree
+        → IsPull laws (side p) (side q) (answer_of pulled) p1.rows × (q1.rows ≡ q.rows)
+        → Turns (λ qs x y. Whole qs y x) (λ ps fault x y. Stopped ps fault y x) (done ++ pulled ∷ []) q1 p1
     turn p1 q1 pulled sp sq h = record {
       follows = λ qs q' p' met more.
           let rest = subst (λ s. IsByTurns laws qs s (with_rows (side p) p1.rows) q' p' met) (same_side q q1 h.1 sq) (subst (λ s. IsByTurns laws qs (side q1) s q' p' met) (rows_alone p p1 sp) more) in
           subst (λ ps. Whole ps p' q') (sym (one_more answer_of done pulled qs)) (t.follows (answer_of pulled ∷ qs) p' q' ((side p, side q) ∷ met) (p1.rows, met, refl, h.0, rest));
       stops = λ ps fault q' p' more.
-          let rest = subst (λ s. StopsByTurns laws ps fault s (with_rows (side p) p1.rows) q' p') (same_side q q1 h.1 sq) (subst (λ s. StopsByTurns laws ps fault (side q1) s q' p') (rows_alone p p1 sp) more) in
+          let rest = subst (λ s. StopsByTurns laws ps fault s (with_rows (side p) p1.rows) q' p') (same_side q q1 h.1 sq)
+          (subst (λ s. StopsByTurns laws ps fault (side q1) s q' p') (rows_alone p p1 sp) more) in
           subst (λ qs. Stopped qs fault p' q') (sym (append_assoc done (pulled ∷ []) ps)) (t.stops (pulled ∷ ps) fault p' q' (p1.rows, h.0, rest));
     }
 
@@ -70,18 +75,21 @@ module _ {K V H : Type 0} (laws : Laws K V H) where
     starts = record { settings_a = (refl, refl, refl); settings_b = (refl, refl, refl); turns = record { follows = λ qs a' b' met t. (met, t); stops = λ ps fault a' b' t. t } }
 
     module _ (a b : Contents K V H) (done : List (Pulled K)) where
-      turned : (next : Bool) (a1 b1 : Contents K V H) (pulled : Pulled K) → SameSettings a.tree a1.tree → SameSettings b.tree b1.tree → IsTurn laws next a b a1 b1 pulled → Going done next a b → Going (done ++ pulled ∷ []) (not next) a1 b1
+      turned : (next : Bool) (a1 b1 : Contents K V H) (pulled : Pulled K) → SameSettings a.tree a1.tree → SameSettings b.tree b1.tree
+          → IsTurn laws next a b a1 b1 pulled → Going done next a b → Going (done ++ pulled ∷ []) (not next) a1 b1
       turned true a1 b1 pulled sa sb h t = turn _ _ done a b t a1 b1 pulled sa sb h
       turned false a1 b1 pulled sa sb h t = turn _ _ done b a t b1 a1 pulled sb sa h
 
-      pub goes_on : (next : Bool) (a1 b1 : Contents K V H) (done' : List (Pulled K)) (pulled : Pulled K) → done' ≡ done ++ pulled ∷ [] → SameSettings a.tree a1.tree → SameSettings b.tree b1.tree → IsTurn laws next a b a1 b1 pulled → Goes done next a b → Goes done' (not next) a1 b1
+      pub goes_on : (next : Bool) (a1 b1 : Contents K V H) (done' : List (Pulled K)) (pulled : Pulled K) → done' ≡ done ++ pulled ∷ []
+          → SameSettings a.tree a1.tree → SameSettings b.tree b1.tree → IsTurn laws next a b a1 b1 pulled → Goes done next a b → Goes done' (not next) a1 b1
       goes_on next a1 b1 done' pulled d sa sb h g = record {
         settings_a = further a0 a a1 g.settings_a sa;
         settings_b = further b0 b b1 g.settings_b sb;
         turns = subst (λ ps. Going ps (not next) a1 b1) (sym d) (turned next a1 b1 pulled sa sb h g.turns);
       }
 
-      pub stops_here : (next : Bool) (fault : PullError K) (a' b' : Contents K V H) → IsTurnRefused laws next a b a' b' fault → Going done next a b → StopsByTurns laws done fault (side a0) (side b0) a'.rows b'.rows
+      pub stops_here : (next : Bool) (fault : PullError K) (a' b' : Contents K V H) → IsTurnRefused laws next a b a' b' fault → Going done next a b
+          → StopsByTurns laws done fault (side a0) (side b0) a'.rows b'.rows
       stops_here true fault a' b' h t = halt _ _ done a b t fault a'.rows b'.rows h
       stops_here false fault a' b' h t = halt _ _ done b a t fault b'.rows a'.rows h
 

@@ -40,8 +40,8 @@ module _ {K V H : Type 0} (laws : Laws K V H) where
 
 module _ {K V H : Type 0} (laws : Laws K V H) (local peer : Contents K V H) where
   -- local may ask the peer for these ranges
-  abbrev pub MayAsk : List (K × K) → Type 0
-  MayAsk ranges = IsAnswerFor laws (side local) (side peer) (spans_of ranges)
+  abbrev pub MayAskPeer : List (K × K) → Type 0
+  MayAskPeer ranges = IsAnswerFor laws (side local) (side peer) (spans_of ranges)
 
   -- local has pulled from the peer, and is `local'` after
   abbrev pub HasPulled : Contents K V H → Pulled K → Type 0

@@ -10,7 +10,7 @@ use Rattle.merkle_tree_theory.specs.Ranges.{IsPageOf}
 use Rattle.merkle_tree_theory.specs.State.{State}
 use Rattle.merkle_search_tree.specs.declared.gap.Gap.{Gap as BorrowedGap}
 use Rattle.merkle_search_tree.specs.declared.outline.OutlineItemOf.{OutlineItemOf}
-use Rattle.merkle_search_tree.specs.Items.{gap_of, item, items}
+use Rattle.merkle_search_tree.specs.Items.{lent_gap, item, items}
 use Rattle.merkle_tree_theory.specs.Stream.{page_digest}
 use Rattle.merkle_replica.specs.Laws.{Laws}
 use Rattle.merkle_replica.specs.Contents.{Side, tree_map}
@@ -19,7 +19,7 @@ use Rattle.merkle_replica.specs.declared.descent.ToAsk.{ToAsk}
 
 -- borrowed gaps
 abbrev pub gaps_of : {K : Type 0} → List (BorrowedGap K) → List (Gap K)
-gaps_of = map gap_of
+gaps_of = map lent_gap
 
 -- borrowed keys
 abbrev pub keys_of : {K : Type 0} → List (Bor K) → List K

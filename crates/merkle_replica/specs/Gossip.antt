@@ -95,8 +95,8 @@ module _ {K V H : Type 0} (laws : Laws K V H) where
   StopsAtHub (Spreading done fault) n = StopsGossip (n + done) fault (through_hub n)
 
 -- the rows of sides
-abbrev pub rows_of : {K V H : Type 0} → List (Side K V H) → List (List (K × V))
-rows_of = map (λ s. s.rows)
+abbrev pub rows_of_sides : {K V H : Type 0} → List (Side K V H) → List (List (K × V))
+rows_of_sides = map (λ s. s.rows)
 
 module _ {K V H : Type 0} (laws : Laws K V H) (hub : Contents K V H) (others : List (Contents K V H)) where
   -- the hub and the others, as sides under the numbers of their places
@@ -108,7 +108,7 @@ module _ {K V H : Type 0} (laws : Laws K V H) (hub : Contents K V H) (others : L
   AllCatchUp hub' others' =
       (met : List (Side K V H × Side K V H))
       × IsGossip laws (through_hub (length others)) (numbered_sides hub others) (numbered_sides hub' others') met
-      × (AllFaithful laws met → AllByRecursion (λ s. IsJoinOf laws.cmp laws.eq laws.join (rows_of (map side (hub ∷ others))) s.rows)
+      × (AllFaithful laws met → AllByRecursion (λ s. IsJoinOf laws.cmp laws.eq laws.join (rows_of_sides (map side (hub ∷ others))) s.rows)
       (map side (hub' ∷ others')))
 
   -- memory ran out in one of these catch-ups

@@ -14,7 +14,7 @@ use merkle_search_tree::laws::{a_map_has_one_tree, every_tree_is_sound};
 /// pages and values that differ have digests that differ. False means that their rows differ, where both digest alike: by one hasher, level
 /// base and page format. It costs what [`Replica::root_hash`] costs of both.
 ///
-/// ```rust crates/replica_tests/src/agreeing.rt
+/// ```rust crates/merkle_replica_tests/src/agreeing.rt
 /// let mut a = counts(alloc, &[("apples", 3), ("bananas", 5), ("cherries", 1)])?;
 /// let mut b = counts(alloc, &[("cherries", 1), ("apples", 3), ("bananas", 5)])?;
 /// assert!(rt; agree(&mut a, &mut b));

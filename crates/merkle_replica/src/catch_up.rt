@@ -73,7 +73,7 @@ impl<K: Key + Drop, V: Join + Drop, H: RowHasher<N, K, V>, const N: usize> Repli
     ///
     /// Replicas whose trees differ in hasher, level base or page format spare each other nothing, but whatever is joined is right.
     ///
-    /// ```rust crates/replica_tests/src/agreeing.rt
+    /// ```rust crates/merkle_replica_tests/src/agreeing.rt
     /// let mut a = counts(alloc, &[("apples", 3), ("bananas", 5)])?;
     /// let mut b = counts(alloc, &[("bananas", 7), ("cherries", 1)])?;
     /// let caught = a.catch_up(&mut b)?;

@@ -3,7 +3,7 @@
 ghost use Rattle.std.specs.Prelude.{◌≡◌, ◌↔◌, IfOk, IsSome, OnOk, IsTrue};
 ghost use Rattle.std.specs.Option.{option_map};
 ghost use Rattle.key_order.specs.Map.{get};
-ghost use Rattle.merkle_search_tree.specs.Items.{gap_of, items as items_of};
+ghost use Rattle.merkle_search_tree.specs.Items.{lent_gap, items as items_of};
 ghost use Rattle.merkle_replica.specs.Contents.{side, tree_map};
 ghost use Rattle.merkle_replica.specs.Descent.{LeaveToAsk, AddsToAsk, HasDigestAt, node_count as count_of, outlines_over};
 ghost use Rattle.merkle_replica.specs.Missing.{has_page_over};
@@ -119,7 +119,7 @@ impl<K: Key + Drop, V: Join + Drop, H: RowHasher<N, K, V>, const N: usize> Repli
     /// Whether the page over the gap has this digest, where the tree is hashed. It goes down one path of the tree.
     fn has_page(&self, gap: &Gap<'_, K>, digest: &PageDigest) -> bool
         requires hashed { IsSome self.now.tree.root_hash }
-        ensures { result ≡ has_page_over H.laws (side self.now) (gap_of gap.now) digest.now }
+        ensures { result ≡ has_page_over H.laws (side self.now) (lent_gap gap.now) digest.now }
     {
         a_replica_has_the_tree_of_its_rows(self);
         a_map_has_one_tree::<K, H, N>();

@@ -36,7 +36,7 @@ pub enum CatchUpAllError {
 /// Other orders of catch-ups serve too, as long as the news of each can come to each
 /// ([`gossip_joins_what_came`](crate::laws::gossip_joins_what_came)).
 ///
-/// ```rust crates/replica_tests/src/hubs.rt
+/// ```rust crates/merkle_replica_tests/src/hubs.rt
 /// catch_up_all(hub, others).is_ok()
 /// ```
 ///

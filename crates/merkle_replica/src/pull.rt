@@ -6,7 +6,7 @@ ghost use Rattle.merkle_tree_theory.specs.Hashed.{hashed_tree};
 ghost use Rattle.merkle_tree_theory.specs.State.{SameSettings};
 ghost use Rattle.merkle_replica.specs.Contents.{side};
 ghost use Rattle.merkle_replica.specs.Faithfully.{CoverInPartWhileFaithful, CoversWhileFaithful};
-ghost use Rattle.merkle_replica.specs.Answers.{spans_of, MayAsk, HasPulled, StopsPulling};
+ghost use Rattle.merkle_replica.specs.Answers.{spans_of, MayAskPeer, HasPulled, StopsPulling};
 ghost use Rattle.merkle_replica.specs.Steps.{MayAskOf};
 
 use crate::replica::Replica;
@@ -56,7 +56,7 @@ impl<K: Key + Drop, V: Join + Drop, H: RowHasher<N, K, V>, const N: usize> Repli
         &mut self,
         peer: &mut Replica<K, V, H, N>,
     ) -> Result<Vec<(K, K)>, AllocError>
-        ensures answer { IfOk result (λ ranges. MayAsk H.laws self.old peer.old ranges.items) }
+        ensures answer { IfOk result (λ ranges. MayAskPeer H.laws self.old peer.old ranges.items) }
         ensures rows { self.new.rows ≡ self.old.rows }
         ensures peer_rows { peer.new.rows ≡ peer.old.rows }
 
@@ -82,7 +82,7 @@ impl<K: Key + Drop, V: Join + Drop, H: RowHasher<N, K, V>, const N: usize> Repli
     /// Replicas of equal rows, at least one, whose trees are in different page formats don't look the same, as far as no digests collide: a
     /// pull then asks for ranges, and joins what is there already. Whatever it joins is right all the same, and no row is lost.
     ///
-    /// ```rust crates/replica_tests/src/agreeing.rt
+    /// ```rust crates/merkle_replica_tests/src/agreeing.rt
     /// // the keys of `a` span those of `b`, so that one pull is enough
     /// let pulled = b.pull(&mut a)?;
     /// assert_eq!(rt; pulled.joined, 3);
@@ -140,7 +140,7 @@ fn ask<K: Key + Drop, V: Join + Drop, H: RowHasher<N, K, V>, const N: usize>(
 ) -> Result<Vec<(K, K)>, AllocError>
     requires local_hashed { IsSome local.now.tree.root_hash }
     requires peer_hashed { IsSome peer.now.tree.root_hash }
-    ensures { IfOk result (λ ranges. MayAsk H.laws local.now peer.now ranges.items) }
+    ensures { IfOk result (λ ranges. MayAskPeer H.laws local.now peer.now ranges.items) }
 {
     every_tree_is_sound(local.tree());
     every_tree_is_sound(peer.tree());

@@ -209,7 +209,7 @@ impl<K: Key + Drop, V: Join + Drop, H: Hasher<N, K> + Hasher<N, V>, const N: usi
     /// [`MerkleSearchTree::remove`] says. No memory is taken where there is no such row, or where in the tree the gap before its key or
     /// the gap after it is empty.
     ///
-    /// ```rust crates/replica_tests/src/kinds.rt
+    /// ```rust crates/merkle_replica_tests/src/kinds.rt
     /// map.del(&K::of(alloc, number)?)
     /// ```
     ///

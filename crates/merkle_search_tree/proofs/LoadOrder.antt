@@ -91,7 +91,8 @@ module _ {K V D : Type 0} (f : V → D) (cmp : K → K → Ordering) (o : IsTota
 
   -- one more row
   pub holds-more : (ps : List (K × D)) (rows : List (K × V)) (j k : K) (v : V) → Holds ps rows → Same cmp j k → Holds (ps ++ (j, f v) ∷ []) (rows ++ (k, v) ∷ [])
-  holds-more ps rows j k v a e = subst (SameMap cmp (λ d x. d ≡ x) (ps ++ (j, f v) ∷ [])) (sym (digests-more f rows k v)) (same-append cmp ps ((j, f v) ∷ []) (digests f rows) ((k, f v) ∷ []) a (e, refl, tt))
+  holds-more ps rows j k v a e = subst (SameMap cmp (λ d x. d ≡ x) (ps ++ (j, f v) ∷ [])) (sym (digests-more f rows k v))
+      (same-append cmp ps ((j, f v) ∷ []) (digests f rows) ((k, f v) ∷ []) a (e, refl, tt))
 
   -- the rows ascend
   pub holds-map : (ps : List (K × D)) (rows : List (K × V)) → Holds ps rows → IsMap cmp ps → IsMap cmp rows
@@ -105,12 +106,17 @@ module _ {K V D : Type 0} (f : V → D) (cmp : K → K → Ordering) (o : IsTota
     rows,
     (k, v),
     w,
-    (holds-map ps rows a r.0.0, λ x m. r.0.1 (f x) (ascends cmp o (λ d y. d ≡ y) (ps ++ (j, f x) ∷ []) (digests f (rows ++ (k, x) ∷ [])) (holds-more ps rows j k x a e) (digests-map f cmp (rows ++ (k, x) ∷ []) m))),
+    (
+      holds-map ps rows a r.0.0,
+      λ x m. r.0.1 (f x)
+          (ascends cmp o (λ d y. d ≡ y) (ps ++ (j, f x) ∷ []) (digests f (rows ++ (k, x) ∷ [])) (holds-more ps rows j k x a e) (digests-map f cmp (rows ++ (k, x) ∷ []) m)),
+    ),
     r.1 ∙ ap (λ n. min n (2 ^ 64 - 1)) (same-length ps (digests f rows) a ∙ digests-length f rows),
   )
 
 -- items that came, and one more
-pub yields-more : {I X : Type 0} (steps : I → Option X → I → Type 0) (it : I) (xs : List X) (mid : I) (x : X) (rest : I) → Yields steps it xs mid → steps mid (Some x) rest → Yields steps it (xs ++ x ∷ []) rest
+pub yields-more : {I X : Type 0} (steps : I → Option X → I → Type 0) (it : I) (xs : List X) (mid : I) (x : X) (rest : I) → Yields steps it xs mid
+    → steps mid (Some x) rest → Yields steps it (xs ++ x ∷ []) rest
 yields-more steps it [] mid x rest y s = (rest, subst (λ i. steps i (Some x) rest) (sym y) s, refl)
 yields-more steps it (z ∷ zs) mid x rest y s = (y.0, y.1, yields-more steps y.0 zs mid x rest y.2 s)
 

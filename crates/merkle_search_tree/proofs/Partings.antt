@@ -17,7 +17,8 @@ module _ {K D : Type 0} (cmp : K → K → Ordering) (at : K) where
   gap-all (high h) p = refl
   gap-all (node h k d r) p = by (is_gt (cmp at k)) p (gap-all r)
     where
-      by : (b : Bool) → (if b then (suc (row_place cmp at r)) else 0) ≡ suc (row_length r) → (row_place cmp at r ≡ row_length r → gap cmp at r ≡ high_of r) → (if b then (gap cmp at r) else h) ≡ high_of r
+      by : (b : Bool) → (if b then (suc (row_place cmp at r)) else 0) ≡ suc (row_length r) → (row_place cmp at r ≡ row_length r → gap cmp at r ≡ high_of r)
+          → (if b then (gap cmp at r) else h) ≡ high_of r
       by true p f = f (omega (arith, p))
       by false p f = absurd (omega (arith, p))
 
@@ -119,7 +120,8 @@ module _ {K D : Type 0} (cmp : K → K → Ordering) (k : K) where
       → PartingsFit cmp k (first_of (row_drop at (row_of_page t))) cs → PartingsFit cmp k (below t) (c ∷ cs)
   partings-more (page l o r) at c cs p a q f = ((a, q ∙ p), subst (λ h. PartingsFit cmp k h cs) (sym (gap-at cmp k r at p)) f)
 
-  pub first-parting : (h : Held K D) (t : Tree K D) (c : Parting K D) (cs its : List (Parting K D)) → h ≡ below t → its ≡ c ∷ cs → PartingsFit cmp k h its → PartingFits cmp k (row_of_page t) c × PartingsFit cmp k (gap cmp k (row_of_page t)) cs
+  pub first-parting : (h : Held K D) (t : Tree K D) (c : Parting K D) (cs its : List (Parting K D)) → h ≡ below t → its ≡ c ∷ cs → PartingsFit cmp k h its
+      → PartingFits cmp k (row_of_page t) c × PartingsFit cmp k (gap cmp k (row_of_page t)) cs
   first-parting h t c cs its e f a = by t (subst (λ xs. PartingsFit cmp k (below t) xs) f (subst (λ x. PartingsFit cmp k x its) e a))
     where
       by : (t : Tree K D) → PartingsFit cmp k (below t) (c ∷ cs) → PartingFits cmp k (row_of_page t) c × PartingsFit cmp k (gap cmp k (row_of_page t)) cs

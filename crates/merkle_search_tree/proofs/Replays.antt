@@ -19,7 +19,8 @@ module _ {K V : Type 0} where
   map_after-more cmp digest_of m (v ∷ us) u (b ∷ bs) a e = map_after-more cmp digest_of (map_after_one cmp digest_of m v b) us u bs a (omega (arith, e))
 
   pub hashed_after-more : (cmp : K → K → Ordering) (digest_of : V → List ℕ) (m : List (K × List ℕ)) (hashed : Bool) (us : List (Update K V)) (u : Update K V) (bs : List Bool) (a : Bool)
-      → length bs ≡ length us → hashed_after cmp digest_of m hashed (us ++ u ∷ []) (bs ++ a ∷ []) ≡ hashed_after_one cmp digest_of (map_after cmp digest_of m us bs) (hashed_after cmp digest_of m hashed us bs) u a
+      → length bs ≡ length us → hashed_after cmp digest_of m hashed (us ++ u ∷ []) (bs ++ a ∷ []) ≡ hashed_after_one cmp digest_of
+      (map_after cmp digest_of m us bs) (hashed_after cmp digest_of m hashed us bs) u a
   hashed_after-more cmp digest_of m hashed [] u [] a e = refl
   hashed_after-more cmp digest_of m hashed [] u (b ∷ bs) a e = absurd (omega (arith, e))
   hashed_after-more cmp digest_of m hashed (v ∷ us) u [] a e = absurd (omega (arith, e))
@@ -27,7 +28,8 @@ module _ {K V : Type 0} where
       hashed_after-more cmp digest_of (map_after_one cmp digest_of m v b) (hashed_after_one cmp digest_of m hashed v b) us u bs a (omega (arith, e))
 
   pub free-more : (cmp : K → K → Ordering) (digest_of : V → List ℕ) (m : List (K × List ℕ)) (us : List (Update K V)) (u : Update K V) (bs : List Bool) (a : Bool)
-      → length bs ≡ length us → FreeAreAccepted cmp digest_of m us bs → IsAcceptedIfFree cmp digest_of (map_after cmp digest_of m us bs) u a → FreeAreAccepted cmp digest_of m (us ++ u ∷ []) (bs ++ a ∷ [])
+      → length bs ≡ length us → FreeAreAccepted cmp digest_of m us bs → IsAcceptedIfFree cmp digest_of (map_after cmp digest_of m us bs) u a
+      → FreeAreAccepted cmp digest_of m (us ++ u ∷ []) (bs ++ a ∷ [])
   free-more cmp digest_of m [] u [] a e h f = (f, tt)
   free-more cmp digest_of m [] u (b ∷ bs) a e h f = absurd (omega (arith, e))
   free-more cmp digest_of m (v ∷ us) u [] a e h f = absurd (omega (arith, e))

@@ -51,7 +51,8 @@ module _ {K D : Type 0} (cmp : K → K → Ordering) (at : K) where
           push-beside with_high bs b (held_lower cmp at g) (held_lower cmp at (below (page l c r))) (held_upper cmp at g) l c (with_high nothing r) m inv.2 e
               (ap (λ s. below (page l (digest_beside (held_upper cmp at g) c) s)) (with_high-twice (held_lower cmp at g) nothing r) ∙ sym q.0)
               ∙ ap (λ x. page_chain with_high (stale_of x m (length bs)) bs (held_lower cmp at (below (page l c r)))) (sym q.1) ∙ inv.0,
-          (λ j. page_chain with_first (stale_of-same (held_lower cmp at g) (length rs) j) rs (sym q.1 j)) ∙ ap (λ x. page_chain with_first (stale_of x n (length rs)) rs (held_upper cmp at (below (page l c r)))) (sym q.0) ∙ inv.1,
+          (λ j. page_chain with_first (stale_of-same (held_lower cmp at g) (length rs) j) rs (sym q.1 j))
+              ∙ ap (λ x. page_chain with_first (stale_of x n (length rs)) rs (held_upper cmp at (below (page l c r)))) (sym q.0) ∙ inv.1,
           omega (arith, length-last bs b, inv.2),
           omega arith,
           inv.4,
@@ -63,7 +64,8 @@ module _ {K D : Type 0} (cmp : K → K → Ordering) (at : K) where
         let q = page-none cmp at l c r p z in
         let g = first_of r in
         subst (λ x. Parts h₀ x bs (length bs) (rs ++ b ∷ []) n) (sym (gap-at cmp at r 0 (sym p))) (
-          (λ j. page_chain with_high (stale_of-same (held_upper cmp at g) (length bs) j) bs (sym q.0 j)) ∙ ap (λ x. page_chain with_high (stale_of x m (length bs)) bs (held_lower cmp at (below (page l c r)))) (sym q.1) ∙ inv.0,
+          (λ j. page_chain with_high (stale_of-same (held_upper cmp at g) (length bs) j) bs (sym q.0 j))
+              ∙ ap (λ x. page_chain with_high (stale_of x m (length bs)) bs (held_lower cmp at (below (page l c r)))) (sym q.1) ∙ inv.0,
           push-beside with_first rs b (held_upper cmp at g) (held_upper cmp at (below (page l c r))) (held_lower cmp at g) l c (with_first nothing r) n inv.3 e
               (ap (λ s. below (page l (digest_beside (held_lower cmp at g) c) s)) (with_first-twice (held_upper cmp at g) nothing r) ∙ sym q.1)
               ∙ ap (λ x. page_chain with_first (stale_of x n (length rs)) rs (held_upper cmp at (below (page l c r)))) (sym q.0) ∙ inv.1,
@@ -80,11 +82,13 @@ module _ {K D : Type 0} (cmp : K → K → Ordering) (at : K) where
         let g = first_of (row_drop i r) in
         subst (λ x. Parts h₀ x (bs ++ b ∷ []) (length (bs ++ b ∷ [])) (rs ++ u ∷ []) (length (rs ++ u ∷ []))) (sym (gap-at cmp at r i p)) (
           ap (λ k. page_chain with_high k (bs ++ b ∷ []) (held_lower cmp at g)) (stale_of-same (held_upper cmp at g) (length (bs ++ b ∷ [])))
-              ∙ push-stale with_high bs b (held_lower cmp at g) (held_lower cmp at (below (page l c r))) (length (bs ++ b ∷ [])) (length-last bs b) (ap (λ (t : Tree K D). below (page_with_row 1 t (with_high (held_lower cmp at g) (row_of_page t)))) e ∙ sym q.0)
+              ∙ push-stale with_high bs b (held_lower cmp at g) (held_lower cmp at (below (page l c r))) (length (bs ++ b ∷ [])) (length-last bs b)
+              (ap (λ (t : Tree K D). below (page_with_row 1 t (with_high (held_lower cmp at g) (row_of_page t)))) e ∙ sym q.0)
               ∙ ap (λ x. page_chain with_high (stale_of x m (length bs)) bs (held_lower cmp at (below (page l c r)))) (sym q.1) ∙ inv.0,
           ap (λ k. page_chain with_first k (rs ++ u ∷ []) (held_upper cmp at g)) (stale_of-same (held_lower cmp at g) (length (rs ++ u ∷ [])))
               ∙ push-stale with_first rs u (held_upper cmp at g) (held_upper cmp at (below (page l c r))) (length (rs ++ u ∷ [])) (length-last rs u)
-              (ap (λ (t : Tree K D). below (page_with_row 1 t (with_first (held_upper cmp at g) (row_of_page t)))) f ∙ ap (λ x. below (page l None x)) (with_first-twice (held_upper cmp at g) nothing (row_drop i r)) ∙ sym q.1)
+              (ap (λ (t : Tree K D). below (page_with_row 1 t (with_first (held_upper cmp at g) (row_of_page t)))) f
+              ∙ ap (λ x. below (page l None x)) (with_first-twice (held_upper cmp at g) nothing (row_drop i r)) ∙ sym q.1)
               ∙ ap (λ x. page_chain with_first (stale_of x n (length rs)) rs (held_upper cmp at (below (page l c r)))) (sym q.0) ∙ inv.1,
           omega arith,
           omega arith,

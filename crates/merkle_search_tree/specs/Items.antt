@@ -12,12 +12,12 @@ use Rattle.merkle_search_tree.specs.declared.outline.OutlineItemOf.TheVariants.{
 abbrev pub bound_of : {K : Type 0} → Option (Bor K) → Option K
 bound_of = option_map (λ k. k.now)
 
-abbrev pub gap_of : {K : Type 0} → BorrowedGap K → Gap K
-gap_of g = record { after = bound_of g.after; before = bound_of g.before }
+abbrev pub lent_gap : {K : Type 0} → BorrowedGap K → Gap K
+lent_gap g = record { after = bound_of g.after; before = bound_of g.before }
 
 abbrev pub item : {K D : Type 0} → OutlineItemOf K D → Item K D
 item (Node k d) = of_node k.now d.now
-item (Page g d) = of_page (gap_of g) d.now
+item (Page g d) = of_page (lent_gap g) d.now
 
 abbrev pub items : {K D : Type 0} → List (OutlineItemOf K D) → List (Item K D)
 items = map item

@@ -35,8 +35,8 @@ module _ {K V H : Type 0} (cmp : K → K → Ordering) (digest_of : V → List �
   HasLoaded Came tree = (rows : List (K × V)) × Came rows × IsMap cmp rows × (map_of tree ≡ digests digest_of rows)
 
   -- the map of the tree is the rows with the digests of their values, up to equal keys
-  abbrev pub HasDigestsOf : List (K × V) → State K H → Type 0
-  HasDigestsOf rows tree = SameMap cmp (λ d e. d ≡ e) (map_of tree) (digests digest_of rows)
+  abbrev pub HasRowDigests : List (K × V) → State K H → Type 0
+  HasRowDigests rows tree = SameMap cmp (λ d e. d ≡ e) (map_of tree) (digests digest_of rows)
 
 -- the rows begin with these
 abbrev pub BeginsWith : {X : Type 0} → List X → List X → Type 0

@@ -15,7 +15,7 @@ use std::num::NonZeroU8;
 
 /// Makes trees with a hasher, a level base and a page format. A contract sees the three.
 ///
-/// ```rust crates/kind_tests/src/doc_lines.rt
+/// ```rust crates/merkle_search_tree_kind_tests/src/doc_lines.rt
 /// let tree: Tree = Builder::default()
 ///     .with_level_base(base)
 ///     .with_page_format(PageFormat::V2)

@@ -2,7 +2,7 @@
 
 ghost use Rattle.std.specs.Prelude.{◌≡◌};
 ghost use Rattle.merkle_tree_theory.specs.Gap.{everywhere};
-ghost use Rattle.merkle_search_tree.specs.Items.{gap_of};
+ghost use Rattle.merkle_search_tree.specs.Items.{lent_gap};
 
 /// A gap: the keys above one key and below another. Where one of the two is absent, the gap has no bound on that side.
 #[derive(Drop)]
@@ -16,7 +16,7 @@ pub struct Gap<'a, K> {
 impl<'a, K> Gap<'a, K> {
     /// The gap that has all keys.
     pub fn everywhere() -> Self
-        ensures { gap_of result ≡ everywhere }
+        ensures { lent_gap result ≡ everywhere }
     {
         Gap {
             after: None,
@@ -26,7 +26,7 @@ impl<'a, K> Gap<'a, K> {
 
     /// The same gap.
     pub fn copied(&self) -> Gap<'a, K>
-        ensures { gap_of result ≡ gap_of self.now }
+        ensures { lent_gap result ≡ lent_gap self.now }
     {
         Gap {
             after: self.after,

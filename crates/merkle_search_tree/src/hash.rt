@@ -159,7 +159,7 @@ impl<K: Ord + KeyBytes, V, H: Hasher<N, K>, const N: usize> MerkleSearchTree<K, 
     ///
     /// Of the pages that lack a digest it hashes the nodes, one page after the other; below a page that has one it doesn't look.
     ///
-    /// ```rust crates/kind_tests/src/doc_lines.rt
+    /// ```rust crates/merkle_search_tree_kind_tests/src/doc_lines.rt
     /// let mut tree: Tree = MerkleSearchTree::with_defaults(alloc);
     /// tree.upsert(key, &42)?;
     /// let digest = tree.root_hash().clone()?;

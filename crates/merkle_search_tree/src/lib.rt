@@ -29,6 +29,7 @@ mod spare;
 mod split;
 mod spot;
 mod tree;
+mod tree_copy;
 mod tree_outline;
 mod tree_ranges;
 pub mod updates;

@@ -5,7 +5,7 @@ ghost use Rattle.std.specs.Iterator.{IsFiniteIterable};
 ghost use Rattle.key_order.specs.Map.{IsMap};
 ghost use Rattle.merkle_diff.specs.Iterable.{Gives, Begins};
 ghost use Rattle.merkle_tree_theory.specs.Edge.{edge_pairs};
-ghost use Rattle.merkle_search_tree.specs.Loading.{Adds, IsLoading, HasLoaded, HasDigestsOf, RowFails, LoadFails, BeginsWith};
+ghost use Rattle.merkle_search_tree.specs.Loading.{Adds, IsLoading, HasLoaded, HasRowDigests, RowFails, LoadFails, BeginsWith};
 ghost use Rattle.merkle_tree_theory.specs.State.{map_of, HasSettings};
 ghost use Rattle.merkle_search_tree.specs.declared.load.LoadRefused.TheVariants.{Memory};
 
@@ -185,7 +185,7 @@ impl<K: Key + Drop, V: Eq, H: Hasher<N, K> + Hasher<N, V> + Drop, const N: usize
         rows: &[(K, V)],
     ) -> Result<Self, LoadRefused>
         // The map is the rows with the digests of their values.
-        ensures map { IfOk result (HasDigestsOf K.cmp (⟦<H as Hasher<N, V>>⟧.digest_of builder.hasher) rows.now) }
+        ensures map { IfOk result (HasRowDigests K.cmp (⟦<H as Hasher<N, V>>⟧.digest_of builder.hasher) rows.now) }
 
         ensures ascending { IfOk result (λ tree. IsMap K.cmp rows.now) }
         ensures settings { IfOk result (HasSettings builder) }

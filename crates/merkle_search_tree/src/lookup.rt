@@ -8,7 +8,7 @@ ghost use Rattle.merkle_tree_theory.specs.Lookup.{page_over, held_over};
 ghost use Rattle.merkle_tree_theory.specs.Page.{pairs, held_pairs, pair_of};
 ghost use Rattle.merkle_tree_theory.specs.Remove.{tree_entry, held_entry};
 ghost use Rattle.merkle_tree_theory.specs.Tree.{held_of};
-ghost use Rattle.merkle_search_tree.specs.Items.{bound_of, gap_of};
+ghost use Rattle.merkle_search_tree.specs.Items.{bound_of, lent_gap};
 
 use crate::gap::Gap;
 use crate::page::{NodeOf, PageOf};
@@ -37,7 +37,7 @@ impl<K: Ord, D> PageOf<K, D> {
     #[cycle(over)]
     pub(crate) fn page_over(&self, gap: &Gap<'_, K>) -> Option<&PageOf<K, D>>
         requires { IsMap K.cmp (pairs self.now) }
-        ensures { option_map (λ page. page.now) result ≡ page_over K.cmp (gap_of gap.now) self.now }
+        ensures { option_map (λ page. page.now) result ≡ page_over K.cmp (lent_gap gap.now) self.now }
     {
         let at = first_behind(&self.nodes, gap.after);
         if at == self.nodes.len() {
@@ -73,7 +73,7 @@ fn over_below<'a, K: Ord, D>(
     gap: &Gap<'_, K>,
 ) -> Option<&'a PageOf<K, D>>
     requires { IsMap K.cmp (held_pairs (held_of held.now)) }
-    ensures { option_map (λ page. page.now) result ≡ held_over K.cmp (gap_of gap.now) (held_of held.now) }
+    ensures { option_map (λ page. page.now) result ≡ held_over K.cmp (lent_gap gap.now) (held_of held.now) }
 {
     match held {
         None => None,

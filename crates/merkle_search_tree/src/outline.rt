@@ -5,7 +5,7 @@ ghost use Rattle.merkle_tree_theory.specs.Canonical.{HasNode};
 ghost use Rattle.merkle_tree_theory.specs.Tree.{held_of};
 ghost use Rattle.merkle_tree_theory.specs.Outline.{cached_items, held_items};
 ghost use Rattle.merkle_tree_theory.specs.Page.{cache};
-ghost use Rattle.merkle_search_tree.specs.Items.{gap_of};
+ghost use Rattle.merkle_search_tree.specs.Items.{lent_gap};
 ghost use Rattle.merkle_search_tree.specs.Lists.{AddsItems};
 
 use crate::gap::Gap;
@@ -48,7 +48,7 @@ impl<K, D> PageOf<K, D> {
         gap: Gap<'a, K>,
         list: &mut Vec<OutlineItemOf<'a, K, D>>,
     ) -> Result<(), AllocError>
-        ensures { OnOk result (AddsItems (cached_items (gap_of gap.entry) self.now) list.old list.new) }
+        ensures { OnOk result (AddsItems (cached_items (lent_gap gap.entry) self.now) list.old list.new) }
     {
         let mut after = gap.after;
         'nodes: for node in &self.nodes {
@@ -75,7 +75,7 @@ fn list_page<'a, K, D>(
     gap: Gap<'a, K>,
     list: &mut Vec<OutlineItemOf<'a, K, D>>,
 ) -> Result<(), AllocError>
-    ensures { OnOk result (AddsItems (held_items cache (gap_of gap.entry) (held_of held.now)) list.old list.new) }
+    ensures { OnOk result (AddsItems (held_items cache (lent_gap gap.entry) (held_of held.now)) list.old list.new) }
 {
     let Some(page) = held else {
         return Ok(());

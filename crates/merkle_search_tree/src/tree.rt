@@ -3,15 +3,13 @@
 ghost use Rattle.std.specs.Prelude.{◌≡◌, ◌≢◌, ℕ, ◌+◌, ◌^◌, ◌<◌, ◌≤◌, length, None, OnOk, OnErr, IfOk, IfErr, IfSome, IsOk, true, map};
 ghost use Rattle.std.specs.Option.{option_map};
 ghost use Rattle.std.specs.Int.NonZero.{non_zero_u8_get};
-ghost use Rattle.key_order.specs.Order.{Same};
-ghost use Rattle.key_order.specs.Map.{SameMap, has_key};
+ghost use Rattle.key_order.specs.Map.{has_key};
 ghost use Rattle.merkle_digest.specs.SipHash.{zero_key};
-ghost use Rattle.merkle_tree_theory.specs.Tree.{page, high, nothing};
+ghost use Rattle.merkle_tree_theory.specs.Tree.{page};
 ghost use Rattle.merkle_tree_theory.specs.Page.{level, pair_of, nodes_of, nodes_in_order};
 ghost use Rattle.merkle_tree_theory.specs.Search.{ComparesByHalves};
 ghost use Rattle.merkle_tree_theory.specs.Upsert.{place};
 ghost use Rattle.merkle_tree_theory.specs.Cache.{uncached_pages, KeyUncached};
-ghost use Rattle.merkle_tree_theory.specs.Copy.{IsCopy};
 ghost use Rattle.merkle_tree_theory.specs.Dropped.{UpsertDropsFew, RemovalDropsFew};
 ghost use Rattle.merkle_tree_theory.specs.Sound.{IsSound};
 ghost use Rattle.merkle_tree_theory.specs.State.{map_of, IsNew, SameSettings};
@@ -25,7 +23,7 @@ use crate::page::Page;
 use crate::spot::search;
 use crate::upsert::UpsertRefused;
 use crate::visitor::{Visitor, traverse_page};
-use merkle_digest::{Digest, Hasher, Key, KeyBytes, RootHash, SipHasher, ValueDigest, level};
+use merkle_digest::{Digest, Hasher, KeyBytes, RootHash, SipHasher, ValueDigest, level};
 use std::alloc::{AllocError, Global};
 use std::marker::{Model, PhantomData};
 use std::num::NonZeroU8;
@@ -38,7 +36,7 @@ use std::num::NonZeroU8;
 /// bytes. A tree is made by a [`Builder`], or from rows that ascend. Where `Tree` is
 /// `MerkleSearchTree<String, u64, SipHasher, 16>`:
 ///
-/// ```rust crates/kind_tests/src/doc_lines.rt
+/// ```rust crates/merkle_search_tree_kind_tests/src/doc_lines.rt
 /// let mut tree: Tree = MerkleSearchTree::with_defaults(alloc);
 /// tree.upsert(key, &42)?;
 /// let digest = tree.root_hash().clone()?;
@@ -54,12 +52,12 @@ use std::num::NonZeroU8;
 /// The tree keeps the allocator that it was made with.
 pub struct MerkleSearchTree<K: Ord + KeyBytes, V, H: Hasher<N, K>, const N: usize> {
     pub(crate) alloc: Global,
-    hasher: H,
-    level_base: NonZeroU8,
+    pub(crate) hasher: H,
+    pub(crate) level_base: NonZeroU8,
     pub(crate) page_format: PageFormat,
     pub(crate) root: Page<N, K>,
     pub(crate) root_hash: Option<RootHash>,
-    value_type: PhantomData<V>,
+    pub(crate) value_type: PhantomData<V>,
 }
 
 // Written out, so that a caller doesn't prove again how each part is dropped.
@@ -191,7 +189,7 @@ impl<K: Ord + KeyBytes, V, H: Hasher<N, K>, const N: usize> MerkleSearchTree<K, 
     /// For the root page, the place of the first node whose key is at least `key`, or the number of nodes; and how many nodes' keys
     /// were compared, by halving, at most the number of binary digits of the number of nodes. It takes no memory.
     ///
-    /// ```rust crates/tree_tests/src/places.rt
+    /// ```rust crates/merkle_search_tree_tests/src/places.rt
     /// let keys = keys_of(alloc, "2:0 4:0 6:0")?;
     /// let page = tree(alloc, &keys)?;
     /// for (key, place) in [(5, 2), (6, 2), (7, 3), (1, 0)] {
@@ -244,7 +242,7 @@ impl<K: Ord + KeyBytes, V, H: Hasher<N, K>, const N: usize> MerkleSearchTree<K, 
     /// It makes at most three calls for each node and two for each page, compares no keys, and takes no memory of its own. Its recursion
     /// is as deep as the tree, at most 256 pages.
     ///
-    /// ```rust crates/tree_tests/src/traversals.rt
+    /// ```rust crates/merkle_search_tree_tests/src/traversals.rt
     /// let mut recorder = Recorder {
     ///     calls: Vec::new(alloc),
     ///     last,
@@ -256,46 +254,6 @@ impl<K: Ord + KeyBytes, V, H: Hasher<N, K>, const N: usize> MerkleSearchTree<K, 
         ensures visited { (all : Bool) × Visits T.step visitor.old (events_of false self.now.root) all visitor.new }
     {
         let _ = traverse_page(&self.root, false, visitor);
-    }
-}
-
-impl<K: Key, V, H: Hasher<N, K> + Clone, const N: usize> MerkleSearchTree<K, V, H, N> {
-    /// A tree of an equal map, with equal pages, all cached digests included, a clone of the hasher, and the same level base, page format
-    /// and cached root hash. It clones each key once, and hashes nothing.
-    ///
-    /// ```rust crates/main_theorem/src/after.rt
-    /// let copy = replica.tree().try_clone()?;
-    /// every_tree_is_sound(&copy);
-    /// Ok(copy)
-    /// ```
-    ///
-    /// # Errors
-    ///
-    /// `AllocError` if memory runs out: for a page or its nodes, or for the clone of a key or of the hasher.
-    pub fn try_clone(&self) -> Result<Self, AllocError>
-        // A clone of a hasher gives the digests that the hasher gives.
-        requires hashers { (a b : H) → H.is_clone a b → (k : K) → H.digest_of b k ≡ H.digest_of a k }
-
-        ensures map { IfOk result (λ copy. SameMap K.cmp (λ d e. d ≡ e) (map_of self.now) (map_of copy)) }
-        ensures pages { IfOk result (λ copy. IsCopy (Same K.cmp) (λ d e. d ≡ e) self.now.root copy.root) }
-        ensures hasher { IfOk result (λ copy. H.is_clone self.now.hasher copy.hasher) }
-        ensures digests { IfOk result (λ copy. (k : K) → H.digest_of copy.hasher k ≡ H.digest_of self.now.hasher k) }
-        ensures base { IfOk result (λ copy. copy.base ≡ self.now.base) }
-        ensures format { IfOk result (λ copy. copy.format ≡ self.now.format) }
-        ensures root_hash { IfOk result (λ copy. copy.root_hash ≡ self.now.root_hash) }
-    {
-        let hasher = self.hasher.clone()?;
-        let root = self.root.try_clone(self.alloc)?;
-        let root_hash = copy_root_hash(&self.root_hash)?;
-        Ok(MerkleSearchTree {
-            alloc: self.alloc,
-            hasher,
-            level_base: self.level_base,
-            page_format: self.page_format,
-            root,
-            root_hash,
-            value_type: PhantomData,
-        })
     }
 }
 
@@ -421,15 +379,5 @@ impl<K: Ord + KeyBytes + Drop, V, H: Hasher<N, K>, const N: usize> MerkleSearchT
         };
         self.root_hash = None;
         Ok(Some(entry))
-    }
-}
-
-/// A copy of a cached root hash, where there is one. It never fails.
-fn copy_root_hash(digest: &Option<RootHash>) -> Result<Option<RootHash>, AllocError>
-    ensures { IfOk result (λ copy. copy ≡ digest.now) }
-{
-    match digest {
-        None => Ok(None),
-        Some(digest) => Ok(Some(digest.clone()?)),
     }
 }

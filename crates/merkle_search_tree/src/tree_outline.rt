@@ -5,7 +5,7 @@ ghost use Rattle.std.specs.Option.{option_map};
 ghost use Rattle.key_order.specs.Map.{get};
 ghost use Rattle.merkle_tree_theory.specs.CachedRanges.{as_list};
 ghost use Rattle.merkle_tree_theory.specs.State.{map_of};
-ghost use Rattle.merkle_search_tree.specs.Items.{gap_of, item as item_of};
+ghost use Rattle.merkle_search_tree.specs.Items.{lent_gap, item as item_of};
 ghost use Rattle.merkle_search_tree.specs.Pages.{whole_tree};
 ghost use Rattle.merkle_search_tree.specs.WhereHashed.{WhereHashed, HasPageWith, FindsFillingPage, IsOutlineOver, TellsPageOver};
 
@@ -50,8 +50,8 @@ impl<K: Ord + KeyBytes, V, H: Hasher<N, K>, const N: usize> MerkleSearchTree<K, 
     /// ```
     pub fn has_page(&self, gap: &Gap<'_, K>, digest: &PageDigest) -> bool
         ensures only { IsTrue result → HasPageWith K.bytes_of self.now digest.now }
-        ensures all { FindsFillingPage K.cmp K.bytes_of self.now (gap_of gap.now) digest.now result }
-        ensures over { TellsPageOver K.cmp K.bytes_of self.now (gap_of gap.now) digest.now result }
+        ensures all { FindsFillingPage K.cmp K.bytes_of self.now (lent_gap gap.now) digest.now result }
+        ensures over { TellsPageOver K.cmp K.bytes_of self.now (lent_gap gap.now) digest.now result }
     {
         match self.root.page_over(gap) {
             None => false,
@@ -81,7 +81,7 @@ impl<K: Ord + KeyBytes, V, H: Hasher<N, K>, const N: usize> MerkleSearchTree<K, 
         &'a self,
         gap: Gap<'a, K>,
     ) -> Result<Option<Vec<OutlineItem<'a, N, K>>>, AllocError>
-        ensures items { IfOk result (WhereHashed self.now (IsOutlineOver K.cmp K.bytes_of self.now (gap_of gap.entry))) }
+        ensures items { IfOk result (WhereHashed self.now (IsOutlineOver K.cmp K.bytes_of self.now (lent_gap gap.entry))) }
         ensures not_hashed { self.now.root_hash ≡ None → IsOk result }
     {
         if self.root_hash.is_none() {

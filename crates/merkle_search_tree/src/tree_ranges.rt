@@ -17,7 +17,7 @@ impl<K: Ord + KeyBytes, V, H: Hasher<N, K>, const N: usize> MerkleSearchTree<K, 
     /// of the pages below it, and that of the root first, so that peers can compare what they hold by
     /// [`diff`](merkle_diff::diff):
     ///
-    /// ```rust crates/kind_tests/src/doc_lines.rt
+    /// ```rust crates/merkle_search_tree_kind_tests/src/doc_lines.rt
     /// local.root_hash();
     /// peer.root_hash();
     /// let ours = local.serialise_page_ranges()?;

@@ -15,9 +15,9 @@ use Rattle.merkle_delta.specs.Hearing.{IsHeard, IsSentFor, Told}
 use Rattle.merkle_delta.specs.declared.hearing.Heard.TheVariants.{Reply, Again}
 use Rattle.store_table.specs.WireRegisters.{register_encoding}
 use Rattle.store_table.specs.declared.register.Register.{Register}
-use Rattle.merkle_store.specs.Exchanges.{Begins, Exchange, IsToldReply, LeadTo, Wire, on_wire}
+use Rattle.merkle_store.specs.Exchanges.{BeginsCatchUp, Exchange, IsToldReply, LeadTo, Wire, on_wire}
 use Rattle.merkle_store.specs.Framing.{Streams, frame_of}
-use Rattle.merkle_store.specs.Sessions.{EntryContents, entry_laws, key_encoding, all_asked, all_told, CatchesUp, HasServed}
+use Rattle.merkle_store.specs.Sessions.{EntryContents, entry_laws, text_key_encoding, all_asked, all_told, CatchesUp, HasServed}
 
 -- bytes that were read before one more exchange, and with it
 all_read : (f : List ℕ × List ℕ → List ℕ) (a b c : Option (List ℕ)) (exchanges : Wire) (one : List ℕ × List ℕ)
@@ -40,13 +40,13 @@ asks_again (Some told) question message reply again sent hears = hears.0 ∙ sen
 
 module _ (replica : EntryContents) (most : ℕ) (before : Streams) where
   abbrev Leads : List (Text × Register) → List Exchange → Underway Text Register → List ℕ → Type 0
-  Leads = LeadTo entry_laws 16 key_encoding register_encoding (side replica)
+  Leads = LeadTo entry_laws 16 text_key_encoding register_encoding (side replica)
 
   -- exchanges led from the beginning of a catch-up to one that is under way, which sends this message for its question and tells this with it
   pub record HasComeTo (after : Streams) (session : Underway Text Register) (told : Option Told) (message : Vec ℕ) : Type 0 where
     pub first : Underway Text Register
     pub opening : Vec ℕ
-    pub begins : Begins entry_laws 16 key_encoding replica first opening.items
+    pub begins : BeginsCatchUp entry_laws 16 text_key_encoding replica first opening.items
     pub exchanges : List Exchange
     pub question : List ℕ
     pub sent : IsSentFor question told message.items
@@ -57,7 +57,7 @@ module _ (replica : EntryContents) (most : ℕ) (before : Streams) where
     pub came : Consumes before.1 after.1 (all_told (on_wire exchanges))
 
   -- none did yet
-  pub has_begun : (session : Underway Text Register) (question : Vec ℕ) → Begins entry_laws 16 key_encoding replica session question.items → HasComeTo before session None question
+  pub has_begun : (session : Underway Text Register) (question : Vec ℕ) → BeginsCatchUp entry_laws 16 text_key_encoding replica session question.items → HasComeTo before session None question
   has_begun session question begins = record {
     first = session;
     opening = question;
@@ -93,7 +93,7 @@ module _ (replica : EntryContents) (most : ℕ) (before : Streams) where
 
     -- a plain reply was heard, and a question comes next
     pub goes_on : (plain : Vec ℕ) (next : Underway Text Register) (question : Vec ℕ) (tells : Option Told) (asks : Vec ℕ) → IsHeard told reply (Reply plain)
-        → IsNext entry_laws 16 key_encoding register_encoding (side replica) session plain.items (Ask next question) → IsSentFor question.items tells asks.items
+        → IsNext entry_laws 16 text_key_encoding register_encoding (side replica) session plain.items (Ask next question) → IsSentFor question.items tells asks.items
         → HasComeTo after next tells asks
     goes_on plain next question tells asks hears is goes = record {
       first = come.first;
@@ -127,7 +127,7 @@ module _ (replica : EntryContents) (most : ℕ) (before : Streams) where
 
     -- a plain reply was heard, and it was the last
     pub comes_to : (plain : Vec ℕ) (entries : Vec (Text × Register)) → IsHeard told reply (Reply plain)
-        → IsNext entry_laws 16 key_encoding register_encoding (side replica) session plain.items (Came entries) → CatchesUp replica most before after entries.items
+        → IsNext entry_laws 16 text_key_encoding register_encoding (side replica) session plain.items (Came entries) → CatchesUp replica most before after entries.items
     comes_to plain entries hears is = record {
       session = come.first;
       question = come.opening;
@@ -140,12 +140,12 @@ module _ (replica : EntryContents) (most : ℕ) (before : Streams) where
     }
 
   -- one more was
-  pub has_served_more : (mid after : Streams) (message reply : List ℕ) → HasServed replica most before mid → IsToldReply entry_laws 16 key_encoding register_encoding replica message reply
+  pub has_served_more : (mid after : Streams) (message reply : List ℕ) → HasServed replica most before mid → IsToldReply entry_laws 16 text_key_encoding register_encoding replica message reply
       → length message ≤ most → Consumes mid.1 after.1 (frame_of message) → Appends mid.0 after.0 (frame_of reply) → HasServed replica most before after
   has_served_more mid after message reply (wire, served) is fits came sent = (
     wire ++ (message, reply) ∷ [],
     record {
-      replies = each-append (λ e. IsToldReply entry_laws 16 key_encoding register_encoding replica e.0 e.1) wire ((message, reply) ∷ []) served.replies (is, tt);
+      replies = each-append (λ e. IsToldReply entry_laws 16 text_key_encoding register_encoding replica e.0 e.1) wire ((message, reply) ∷ []) served.replies (is, tt);
       fits = each-append (λ e. length e.0 ≤ most) wire ((message, reply) ∷ []) served.fits (fits, tt);
       asked = all_read (λ e. frame_of e.0) before.1 mid.1 after.1 wire (message, reply) served.asked came;
       told = all_written (λ e. frame_of e.1) before.0 mid.0 after.0 wire (message, reply) served.told sent;

@@ -17,7 +17,7 @@ use Rattle.merkle_wire.specs.Underway.{Underway}
 use Rattle.merkle_wire.specs.declared.catching_up.Next.{Next}
 use Rattle.merkle_wire.specs.declared.catching_up.Next.TheVariants.{Ask, Came}
 use Rattle.merkle_delta.specs.Hearing.{IsHeard, IsSafe, IsSentFor, Told}
-use Rattle.merkle_delta.specs.Messages.{IsAsked, IsToldFor}
+use Rattle.merkle_delta.specs.Messages.{AsksQuestion, IsToldFor}
 use Rattle.merkle_delta.specs.declared.hearing.Heard.{Heard}
 use Rattle.merkle_delta.specs.declared.hearing.Heard.TheVariants.{Reply, Again}
 
@@ -41,7 +41,7 @@ AsksAlone (e ∷ others) = e.told ≡ None
 
 module _ {K V H : Type 0} (laws : Laws K V H) (n : ℕ) (encoding : K → List ℕ) (replica : Contents K V H) where
   -- a catch-up of the replica begins so, with this question: it asks for the root with the replica's settings, and has found nothing
-  pub record Begins (session : Underway K V) (question : List ℕ) : Type 0 where
+  pub record BeginsCatchUp (session : Underway K V) (question : List ℕ) : Type 0 where
     pub settings : AsksForRoot (laws.key_digest replica.tree.hasher) n replica.tree session.asked
     pub asks : question ≡ question_bytes encoding session.asked
     pub nothing_found : session.found ≡ nothing
@@ -65,11 +65,11 @@ module _ {K V H : Type 0} (laws : Laws K V H) (n : ℕ) (encoding : K → List �
         × HeardLeads others (LeadTo others) session question heard
 
   -- a message is answered: a question is read in it, and the plain reply to that is told
-  pub record IsAnswered (old new : Contents K V H) (message reply : List ℕ) : Type 0 where
+  pub record IsMessageAnswered (old new : Contents K V H) (message reply : List ℕ) : Type 0 where
     pub checksums : Option (Vec ℕ)
     pub question : List ℕ
     pub plain : Vec ℕ
-    pub asked : IsAsked checksums question message
+    pub asked : AsksQuestion checksums question message
     pub answered : IsAnsweredBy laws n encoding values old new question plain
     pub told : IsToldFor checksums plain.items reply
 
@@ -81,7 +81,7 @@ module _ {K V H : Type 0} (laws : Laws K V H) (n : ℕ) (encoding : K → List �
       pub rows : (before.rows ≡ replica.rows) × (after.rows ≡ replica.rows)
       pub settings : SameSettings replica.tree before.tree × SameSettings replica.tree after.tree
       pub of_rows : IsTreeOf laws.cmp (laws.key_digest replica.tree.hasher) replica.tree.base after.tree.root (tree_map laws (side replica))
-      pub answer : IsAnswered before after message reply
+      pub answer : IsMessageAnswered before after message reply
 
     -- a replica's replies to each of these messages
     abbrev pub AreRepliesBy : Wire → Type 0
@@ -95,6 +95,6 @@ module _ {K V H : Type 0} (laws : Laws K V H) (n : ℕ) (encoding : K → List �
   -- a catch-up to each of whose messages a peer replied brings what is missing, while no digest of its replies collides
   abbrev pub RepliesBring : Type 0
   RepliesBring = (local peer : Contents K V H) (session : Underway K V) (question : List ℕ) (exchanges : List Exchange) (rows : List (K × V))
-      → IsMap laws.cmp local.rows → IsMap laws.cmp peer.rows → HasSmallMap laws n (side peer) → Begins laws n encoding local session question
+      → IsMap laws.cmp local.rows → IsMap laws.cmp peer.rows → HasSmallMap laws n (side peer) → BeginsCatchUp laws n encoding local session question
       → LeadTo (side local) rows exchanges session question → (replies : AreRepliesBy peer (on_wire exchanges))
       → NoneCollides peer exchanges replies → AreBrought laws (side local) (side peer) rows

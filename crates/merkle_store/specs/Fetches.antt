@@ -2,7 +2,7 @@
 use Rattle.std.specs.Prelude.{◌≡◌, ◌≤◌, ℕ, List, All, length, Option, IfSome, string_bytes}
 use Rattle.std.specs.Global.{Vec}
 use Rattle.key_order.specs.Text.{Text}
-use Rattle.store_table.specs.Values.{bytes_of}
+use Rattle.store_table.specs.Values.{bytes_of_value}
 use Rattle.store_table.specs.declared.register.Register.{Register}
 use Rattle.merkle_store.specs.Framing.{Streams}
 use Rattle.merkle_store.specs.News.{later_entries, AreTimely}
@@ -12,24 +12,24 @@ use Rattle.merkle_store.specs.declared.fetching.Terms.{Terms}
 use Rattle.merkle_store.specs.declared.traffic.Traffic.{Traffic}
 
 -- the key, the writer and the value of an entry have 1 MiB each at most
-pub record IsShort (entry : Text × Register) : Type 0 where
+pub record IsShortEntry (entry : Text × Register) : Type 0 where
   pub key : length (string_bytes entry.0) ≤ 1048576
   pub writer : length (string_bytes entry.1.writer) ≤ 1048576
-  pub value : IfSome entry.1.value (λ value. length (bytes_of value) ≤ 1048576)
+  pub value : IfSome entry.1.value (λ value. length (bytes_of_value value) ≤ 1048576)
 
 -- so many are no more than the most that there may be
-abbrev pub IsWithin : Option ℕ → ℕ → Type 0
-IsWithin most count = IfSome most (λ most. count ≤ most)
+abbrev pub IsAtMost : Option ℕ → ℕ → Type 0
+IsAtMost most count = IfSome most (λ most. count ≤ most)
 
 -- these entries came of a catch-up over the streams
-abbrev pub HasEntries : ℕ → EntryContents → Streams → Streams → Vec (Text × Register) × Traffic → Type 0
-HasEntries most replica before after came = CatchesUp replica most before after came.0.items
+abbrev pub EntriesCame : ℕ → EntryContents → Streams → Streams → Vec (Text × Register) × Traffic → Type 0
+EntriesCame most replica before after came = CatchesUp replica most before after came.0.items
 
 -- entries came of a catch-up over the streams, each short and none from the future; it says how many, and which of them are later than what the replica has
 pub record HasFetched (terms : Terms) (replica : EntryContents) (before after : Streams) (fetched : Fetched) : Type 0 where
   pub came : List (Text × Register)
   pub caught_up : CatchesUp replica terms.most_bytes before after came
-  pub short : All IsShort came
+  pub short : All IsShortEntry came
   pub timely : AreTimely terms.latest came
   pub count : fetched.came ≡ length came
   pub news : fetched.news.items ≡ later_entries replica.rows came

@@ -47,8 +47,8 @@ abbrev pub JoinsEntries : List (Key × Register) → List (Key × Register) → 
 JoinsEntries = HasGathered text_order same_register later_register
 
 -- the new rows are what the old ones become where these entries are put, one after the other
-abbrev pub HasPut : List (Key × Register) → List (Key × Register) → List (Key × Register) → Type 0
-HasPut = IsPuts text_order same_register later_register
+abbrev pub HasPutAll : List (Key × Register) → List (Key × Register) → List (Key × Register) → Type 0
+HasPutAll = IsPuts text_order same_register later_register
 
 -- the rows in memory are those of the trees, which are a store's of this writer
 abbrev pub AreInStep : List ℕ → Trees → List (Key × Register) → Type 0

@@ -16,7 +16,7 @@ use Rattle.merkle_wire.specs.Underway.{Underway}
 use Rattle.store_table.specs.RegisterBytes.{register_bytes}
 use Rattle.store_table.specs.WireRegisters.{register_encoding}
 use Rattle.store_table.specs.declared.register.Register.{Register}
-use Rattle.merkle_store.specs.Exchanges.{AreRepliesBy, Begins, Exchange, IsAnswered, LeadTo, NoneCollides, Wire, on_wire}
+use Rattle.merkle_store.specs.Exchanges.{AreRepliesBy, BeginsCatchUp, Exchange, IsMessageAnswered, LeadTo, NoneCollides, Wire, on_wire}
 use Rattle.merkle_store.specs.Framing.{HasEnded, Streams, frame_of}
 use Rattle.merkle_store.specs.declared.serving.Served.{Served}
 use Rattle.merkle_store.specs.Kept.{same_register, later_register}
@@ -37,12 +37,12 @@ entry_laws = record {
 }
 
 -- a key in a message: how many bytes there are, and the bytes
-abbrev pub key_encoding : Text → List ℕ
-key_encoding key = string_encoding (string_bytes key)
+abbrev pub text_key_encoding : Text → List ℕ
+text_key_encoding key = string_encoding (string_bytes key)
 
 -- a replica answers a message
 abbrev pub AnswersMessage : EntryContents → EntryContents → List ℕ → Vec ℕ → Type 0
-AnswersMessage old new message reply = IsAnswered entry_laws 16 key_encoding register_encoding old new message reply.items
+AnswersMessage old new message reply = IsMessageAnswered entry_laws 16 text_key_encoding register_encoding old new message reply.items
 
 -- all messages of the asking side, each after its length, and all replies likewise
 abbrev pub all_asked : Wire → List ℕ
@@ -56,16 +56,16 @@ all_told wire = flat_map (λ e. frame_of e.1) wire
 pub record CatchesUp (replica : EntryContents) (most : ℕ) (before after : Streams) (entries : List (Text × Register)) : Type 0 where
   pub session : Underway Text Register
   pub question : Vec ℕ
-  pub begins : Begins entry_laws 16 key_encoding replica session question.items
+  pub begins : BeginsCatchUp entry_laws 16 text_key_encoding replica session question.items
   pub exchanges : List Exchange
-  pub leads : LeadTo entry_laws 16 key_encoding register_encoding (side replica) entries exchanges session question.items
+  pub leads : LeadTo entry_laws 16 text_key_encoding register_encoding (side replica) entries exchanges session question.items
   pub fits : AllByRecursion (λ e. length e.1 ≤ most) (on_wire exchanges)
   pub asked : Appends before.0 after.0 (all_asked (on_wire exchanges))
   pub told : Consumes before.1 after.1 (all_told (on_wire exchanges))
 
 -- the replica replies to these messages, read from one stream, of this many bytes at most each, on the other
 pub record IsServed (replica : EntryContents) (most : ℕ) (before after : Streams) (wire : Wire) : Type 0 where
-  pub replies : AreRepliesBy entry_laws 16 key_encoding register_encoding replica wire
+  pub replies : AreRepliesBy entry_laws 16 text_key_encoding register_encoding replica wire
   pub fits : AllByRecursion (λ e. length e.0 ≤ most) wire
   pub asked : Consumes before.1 after.1 (all_asked wire)
   pub told : Appends before.0 after.0 (all_told wire)
@@ -90,4 +90,4 @@ abbrev pub ServedBring : Type 0
 ServedBring = (local peer : EntryContents) (most its_most : ℕ) (before after its_before its_after : Streams) (entries : List (Text × Register))
     (caught_up : CatchesUp local most before after entries) (served : IsServed peer its_most its_before its_after (on_wire caught_up.exchanges))
     → IsMap text_order local.rows → IsMap text_order peer.rows → HasSmallMap entry_laws 16 (side peer)
-    → NoneCollides entry_laws 16 key_encoding register_encoding peer caught_up.exchanges served.replies → AreBrought entry_laws (side local) (side peer) entries
+    → NoneCollides entry_laws 16 text_key_encoding register_encoding peer caught_up.exchanges served.replies → AreBrought entry_laws (side local) (side peer) entries

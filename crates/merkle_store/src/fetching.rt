@@ -3,7 +3,7 @@ ghost use Rattle.std.specs.Prelude.{◌≤◌, ◌≡◌, ◌↔◌, length, All
 ghost use Rattle.std.specs.Io.KnownBytes.{Appends, Consumes};
 ghost use Rattle.merkle_delta.specs.Hearing.{IsSentFor};
 ghost use Rattle.merkle_tree_theory.specs.State.{SameSettings};
-ghost use Rattle.merkle_store.specs.Fetches.{HasEntries, HasFetched, IsShort, IsWithin};
+ghost use Rattle.merkle_store.specs.Fetches.{EntriesCame, HasFetched, IsShortEntry, IsAtMost};
 ghost use Rattle.merkle_store.specs.Framing.{frame_of};
 ghost use Rattle.merkle_store.specs.News.{AreTimely};
 
@@ -122,7 +122,7 @@ fn entries_of_peer<R: Read, W: Write, P: Watch>(
     terms: &Terms,
     watch: &mut P,
 ) -> Result<(Entries, Traffic), WireFault>
-    ensures came { IfOk result (HasEntries terms.now.most_bytes replica.old (W.contents to.old, R.remaining from.old) (W.contents to.new, R.remaining from.new)) }
+    ensures came { IfOk result (EntriesCame terms.now.most_bytes replica.old (W.contents to.old, R.remaining from.old) (W.contents to.new, R.remaining from.new)) }
     ensures rows { replica.new.rows ≡ replica.old.rows }
     ensures settings { SameSettings replica.old.tree replica.new.tree }
 {
@@ -150,7 +150,7 @@ fn entries_of_peer<R: Read, W: Write, P: Watch>(
 
 /// Whether the key, the writer and the value of an entry are as short as they have to be.
 fn is_short(entry: &(String, Register)) -> bool
-    ensures { IsTrue result ↔ IsShort entry.now }
+    ensures { IsTrue result ↔ IsShortEntry entry.now }
 {
     let value = match &entry.1.value {
         Some(value) => value.as_bytes().len(),
@@ -170,7 +170,7 @@ fn naming(alloc: Global, entry: &(String, Register)) -> Result<Untaken, AllocErr
 
 /// Refuses more entries than are taken. (The session has ended before that already.)
 fn expect_few(count: usize, most: Option<u64>) -> Result<(), FetchFault>
-    ensures { OnOk result (IsWithin most count) }
+    ensures { OnOk result (IsAtMost most count) }
 {
     match most {
         Some(most) if count as u64 > most => Err(FetchFault::TooMany),
@@ -180,7 +180,7 @@ fn expect_few(count: usize, most: Option<u64>) -> Result<(), FetchFault>
 
 /// Refuses entries of a peer of which one is too long, or too far ahead of the clock.
 fn expect_fit(alloc: Global, entries: &[(String, Register)], latest: u64) -> Result<(), FetchFault>
-    ensures short { OnOk result (All IsShort entries.now) }
+    ensures short { OnOk result (All IsShortEntry entries.now) }
     ensures timely { OnOk result (AreTimely latest entries.now) }
 {
     'entries: for entry in entries {
@@ -223,7 +223,7 @@ pub fn fetch<R: Read, W: Write, P: Watch>(
     watch: &mut P,
 ) -> Result<Fetched, FetchFault>
     ensures fetched { IfOk result (HasFetched terms.now replica.old (W.contents to.old, R.remaining from.old) (W.contents to.new, R.remaining from.new)) }
-    ensures few { IfOk result (λ fetched. IsWithin terms.now.most_entries fetched.came) }
+    ensures few { IfOk result (λ fetched. IsAtMost terms.now.most_entries fetched.came) }
     ensures rows { replica.new.rows ≡ replica.old.rows }
     ensures settings { SameSettings replica.old.tree replica.new.tree }
 {

@@ -2,7 +2,7 @@
 ghost use Rattle.std.specs.Prelude.{◌≡◌, [], IfOk, IfErr};
 ghost use Rattle.store_table.specs.Faults.{IsFailure};
 ghost use Rattle.store_table.specs.Logs.{IsSteady, Finds, StaysInOk, StaysInErr, LeavesNoMore};
-ghost use Rattle.merkle_store.specs.Kept.{AreRowsOf, HasPut};
+ghost use Rattle.merkle_store.specs.Kept.{AreRowsOf, HasPutAll};
 
 use merkle_digest::SipHasher;
 use merkle_replica::Replica;
@@ -23,7 +23,7 @@ fn replica_of(
     entries: Entries,
     hash_key: &[u8; HASH_KEY_LEN],
 ) -> Result<EntryReplica, StoreFault>
-    ensures puts { IfOk result (λ replica. HasPut [] entries.items replica.rows) }
+    ensures puts { IfOk result (λ replica. HasPutAll [] entries.items replica.rows) }
     ensures hash_key { IfOk result (λ replica. replica.tree.hasher ≡ hash_key.now) }
     ensures failed { IfErr result IsFailure }
 {

@@ -10,7 +10,8 @@ join : {a b : Bool} → a ≡ true → b ≡ true → a && b ≡ true
 join p q = λ i. p i && q i
 
 -- C, E and F are the equality of cached digests, of keys and of value digests, and R relates a key to its copy
-module _ {K D : Type 0} (C : Option (List ℕ) → Option (List ℕ) → Bool) (E : K → K → Bool) (F : D → D → Bool) (c : IsEquivalence C) (e : IsPartialEquivalence E) (f : IsEquivalence F) (R : K → K → Type 0)
+module _ {K D : Type 0} (C : Option (List ℕ) → Option (List ℕ) → Bool) (E : K → K → Bool) (F : D → D → Bool) (c : IsEquivalence C) (e : IsPartialEquivalence E)
+    (f : IsEquivalence F) (R : K → K → Type 0)
     (r : (a b : K) → R a b → E a b ≡ true) where
   mutual
     tree_alike : (t u : Tree K D) → IsCopy R (λ d g. g ≡ d) t u → tree_eq C E F t u ≡ true

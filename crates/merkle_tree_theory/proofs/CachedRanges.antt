@@ -44,13 +44,15 @@ module _ {K : Type 0} (cmp : K → K → Ordering) (o : IsTotalOrder cmp) where
       held_listed l (below t) c q g m = tree_listed t c q g.1 g.2 m
 
     -- so it is for a root page with a cached digest
-    pub root_listed : (t : Tree K (List ℕ)) (d : List ℕ) → cache t ≡ Some d → CachesHold format bytes_of t → IsCanonicalRoot lev t → IsMap cmp (pairs t) → cached_ranges cmp t ≡ ranges_of format bytes_of t
+    pub root_listed : (t : Tree K (List ℕ)) (d : List ℕ) → cache t ≡ Some d → CachesHold format bytes_of t → IsCanonicalRoot lev t → IsMap cmp (pairs t)
+        → cached_ranges cmp t ≡ ranges_of format bytes_of t
     root_listed (page l None r) d e q g m = absurd (cc)
     root_listed (page l (Some c) (high nothing)) d e q g m = refl
     root_listed (page l (Some c) (high (below t))) d e q g m = absurd g
     root_listed (page l (Some c) (node h k x r)) d e q g m = tree_listed (page l (Some c) (node h k x r)) tt q tt g m
 
-    pub hashed_listed : (h : Option (List ℕ)) (t : Tree K (List ℕ)) → is_some h ≡ true → RootHashHolds h (cache t) → CachesHold format bytes_of t → IsCanonicalRoot lev t → IsMap cmp (pairs t) → cached_ranges cmp t ≡ ranges_of format bytes_of t
+    pub hashed_listed : (h : Option (List ℕ)) (t : Tree K (List ℕ)) → is_some h ≡ true → RootHashHolds h (cache t) → CachesHold format bytes_of t
+        → IsCanonicalRoot lev t → IsMap cmp (pairs t) → cached_ranges cmp t ≡ ranges_of format bytes_of t
     hashed_listed None t e r q g m = absurd (cc)
     hashed_listed (Some d) t e r q g m = root_listed t d r q g m
 
@@ -71,7 +73,8 @@ module _ {K : Type 0} (cmp : K → K → Ordering) (lev : K → ℕ) (format : P
     held_ranged l (below t) c q g m = tree_ranged t c q g.1 g.2 m
 
   -- each page of a hashed tree that has a node has a range
-  pub hashed_ranges : (h : Option (List ℕ)) (t : Tree K (List ℕ)) → is_some h ≡ true → RootHashHolds h (cache t) → CachesHold format bytes_of t → IsCanonicalRoot lev t → IsMap cmp (pairs t) → (nodes_of t ≡ [] → ⊥)
+  pub hashed_ranges : (h : Option (List ℕ)) (t : Tree K (List ℕ)) → is_some h ≡ true → RootHashHolds h (cache t) → CachesHold format bytes_of t
+      → IsCanonicalRoot lev t → IsMap cmp (pairs t) → (nodes_of t ≡ [] → ⊥)
       → AllByRecursion (HasRange cmp) (pages_in_order t)
   hashed_ranges None t e r q g m n = absurd (cc)
   hashed_ranges (Some d) (page l c (high h)) e r q g m n = absurd (n refl)
@@ -85,7 +88,8 @@ no_nodes (page l c (node h k d r)) e = absurd (not-none (held_pairs h) (k, d) (r
 
 module _ {K : Type 0} (format : PageFormat) (bytes_of : K → List ℕ) where
   -- a cached root hash is the root page's digest, and no page lacks a digest then
-  pub hashed_has : (h : Option (List ℕ)) (t : Tree K (List ℕ)) → RootHashHolds h (cache t) → CachesHold format bytes_of t → MatchOption h ⊤ (λ d. (d ≡ page_digest format bytes_of t) × (uncached_pages t ≡ 0))
+  pub hashed_has : (h : Option (List ℕ)) (t : Tree K (List ℕ)) → RootHashHolds h (cache t) → CachesHold format bytes_of t
+      → MatchOption h ⊤ (λ d. (d ≡ page_digest format bytes_of t) × (uncached_pages t ≡ 0))
   hashed_has None t e c = tt
   hashed_has (Some d) (page l None r) e c = absurd (cc)
   hashed_has (Some d) (page l (Some x) r) e c = (some d x (sym e) ∙ c.0, none_missing format bytes_of (page l (Some x) r) x refl c)

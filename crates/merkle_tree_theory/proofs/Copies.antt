@@ -79,8 +79,12 @@ module _ {K : Type 0} (cmp : K → K → Ordering) (format : PageFormat) (bytes_
     copy-caches (page l None r) (page l' None r') a p = row_copy-caches r r' a.2 p
     copy-caches (page l None r) (page l' (Some d') r') a p = absurd (cc)
     copy-caches (page l (Some d) r) (page l' None r') a p = absurd (cc)
-    copy-caches (page l (Some d) r) (page l' (Some d') r') a p =
-        (sym (some_is d d' a.1) ∙ p.0 ∙ same_digest cmp format bytes_of respects (page l (Some d) r) (page l' (Some d') r') (copy-same cmp (page l (Some d) r) (page l' (Some d') r') a), copy-each r r' a.2 p.1, row_copy-caches r r' a.2 p.2)
+    copy-caches (page l (Some d) r) (page l' (Some d') r') a p = (
+      sym (some_is d d' a.1) ∙ p.0 ∙ same_digest cmp format bytes_of respects (page l (Some d) r) (page l' (Some d') r')
+          (copy-same cmp (page l (Some d) r) (page l' (Some d') r') a),
+      copy-each r r' a.2 p.1,
+      row_copy-caches r r' a.2 p.2,
+    )
 
     row_copy-caches : (r s : Row K (List ℕ)) → RowIsCopy (Same cmp) (λ d e. d ≡ e) r s → RowCachesHold format bytes_of r → RowCachesHold format bytes_of s
     row_copy-caches (high h) (high h') a p = held_copy-caches h h' a p

@@ -10,7 +10,7 @@ use Rattle.merkle_tree_theory.specs.Cache.{CachesHold, RowCachesHold, HeldCaches
 use Rattle.merkle_tree_theory.specs.CachedRanges.{last_key_of}
 use Rattle.merkle_tree_theory.specs.Canonical.{HasNode, IsCanonical, IsRow, IsGap, IsCanonicalRoot}
 use Rattle.merkle_tree_theory.specs.Chain.{high_of, with_high, row_of_page, page_with_row}
-use Rattle.merkle_tree_theory.specs.Edge.{row_more, IsBare, RowIsBare, HeldIsBare, last_level, edge_pairs, is_above, IsOpen, IsEdge, ClosesPages, Appends}
+use Rattle.merkle_tree_theory.specs.Edge.{row_more, IsBare, RowIsBare, HeldIsBare, last_level, edge_pairs, is_above, IsOpenPage, IsEdge, ClosesPages, Appends}
 use Rattle.merkle_tree_theory.specs.declared.page_format.PageFormat.{PageFormat}
 use Rattle.merkle_tree_theory.proofs.RangeEnds.{last-append}
 use Rattle.merkle_tree_theory.proofs.Roots.{root-pairs, root-canonical}
@@ -75,7 +75,7 @@ module _ {K D : Type 0} where
     page-gap b h (page l c (high g)) s w p q = absurd w
     page-gap b h (page l c (node g k d r)) s w p q = (s, tt, high-row lev l h (node g k d r) p q)
 
-    node-open : (e : Node K D) (t : Tree K D) → IsOpen lev t → IsGap lev (level t) e.lt → HeldIsBare e.lt → lev e.key ≡ level t → IsOpen lev (page_with_row 0 t (row_more e (row_of_page t)))
+    node-open : (e : Node K D) (t : Tree K D) → IsOpenPage lev t → IsGap lev (level t) e.lt → HeldIsBare e.lt → lev e.key ≡ level t → IsOpenPage lev (page_with_row 0 t (row_more e (row_of_page t)))
     node-open e (page l c (high g)) o p q s = absurd o.0
     node-open e (page l c (node g k d r)) o p q s =
         (tt, more-row lev l e (node g k d r) o.1 p s, node-bare e (page l c (node g k d r)) o.2 q, high-more e (node g k d r) ∙ o.3)
@@ -91,11 +91,11 @@ module _ {K D : Type 0} where
   edge-pairs (x ∷ xs) t = ap (λ z. pairs x ++ z) (edge-pairs xs t) ∙ sym (append_assoc (pairs x) (edge_pairs xs) (pairs t))
 
   module _ (lev : K → ℕ) where
-    edge-more : (b : ℕ) (ts : List (Tree K D)) (t : Tree K D) → IsEdge lev b ts → level t < last_level b ts → IsOpen lev t → IsEdge lev b (ts ++ t ∷ [])
+    edge-more : (b : ℕ) (ts : List (Tree K D)) (t : Tree K D) → IsEdge lev b ts → level t < last_level b ts → IsOpenPage lev t → IsEdge lev b (ts ++ t ∷ [])
     edge-more b [] t a s o = (s, o, tt)
     edge-more b (x ∷ xs) t a s o = (a.0, a.1, edge-more (level x) xs t a.2 s o)
 
-    edge-last : (b : ℕ) (ts : List (Tree K D)) (t : Tree K D) → IsEdge lev b (ts ++ t ∷ []) → IsEdge lev b ts × (level t < last_level b ts) × IsOpen lev t
+    edge-last : (b : ℕ) (ts : List (Tree K D)) (t : Tree K D) → IsEdge lev b (ts ++ t ∷ []) → IsEdge lev b ts × (level t < last_level b ts) × IsOpenPage lev t
     edge-last b [] t a = (tt, a.0, a.1)
     edge-last b (x ∷ xs) t a = let r = edge-last (level x) xs t a.2 in ((a.0, a.1, r.0), r.1, r.2)
 
@@ -104,7 +104,8 @@ module _ {K D : Type 0} where
     edge-low b (t ∷ ts) a = omega (arith, edge-low (level t) ts a.2, a.0)
 
     -- the last open page is closed
-    pub closes-more : (n : ℕ) (ts us vs : List (Tree K D)) (t u : Tree K D) (h : Held K D) → us ≡ vs ++ t ∷ [] → level t < n → u ≡ page_with_row 0 t (with_high h (row_of_page t)) → ClosesPages lev n ts us h → ClosesPages lev n ts vs (below u)
+    pub closes-more : (n : ℕ) (ts us vs : List (Tree K D)) (t u : Tree K D) (h : Held K D) → us ≡ vs ++ t ∷ [] → level t < n
+        → u ≡ page_with_row 0 t (with_high h (row_of_page t)) → ClosesPages lev n ts us h → ClosesPages lev n ts vs (below u)
     closes-more n ts us vs t u h e s q a =
         let c = subst (λ x. ClosesPages lev n ts x h) e a in
         let f = edge-last 256 vs t c.0 in
@@ -119,7 +120,8 @@ module _ {K D : Type 0} where
         )
 
     -- a pair on the level of the last open page
-    pub append-at : (n : ℕ) (k : K) (d : D) (ts us vs ws : List (Tree K D)) (t u : Tree K D) (h : Held K D) → us ≡ vs ++ t ∷ [] → last_level 256 us ≡ n → lev k ≡ n → u ≡ page_with_row 0 t (row_more (record { lt = h; key = k; digest = d }) (row_of_page t))
+    pub append-at : (n : ℕ) (k : K) (d : D) (ts us vs ws : List (Tree K D)) (t u : Tree K D) (h : Held K D) → us ≡ vs ++ t ∷ [] → last_level 256 us ≡ n
+        → lev k ≡ n → u ≡ page_with_row 0 t (row_more (record { lt = h; key = k; digest = d }) (row_of_page t))
         → ws ≡ vs ++ u ∷ [] → ClosesPages lev n ts us h → Appends lev k d ts ws
     append-at n k d ts us vs ws t u h e m s q w a =
         let c = subst (λ x. ClosesPages lev n ts x h) e a in
@@ -151,7 +153,8 @@ module _ {K D : Type 0} where
     root-bare (below t) a = a
 
     -- all pages are closed
-    pub closes-all : (ts us : List (Tree K D)) (h : Held K D) → 256 ≤ last_level 256 us → ClosesPages lev 256 ts us h → IsCanonicalRoot lev (root_of h) × IsBare (root_of h) × (pairs (root_of h) ≡ edge_pairs ts)
+    pub closes-all : (ts us : List (Tree K D)) (h : Held K D) → 256 ≤ last_level 256 us → ClosesPages lev 256 ts us h → IsCanonicalRoot lev (root_of h)
+        × IsBare (root_of h) × (pairs (root_of h) ≡ edge_pairs ts)
     closes-all ts [] h s a = (root-canonical lev 256 h a.2.0, root-bare h a.2.1, root-pairs h ∙ a.3)
     closes-all ts (u ∷ us) h s a = absurd (omega (arith, s, edge-low (level u) us a.0.2, a.0.0))
 
@@ -194,7 +197,8 @@ module _ {K D : Type 0} where
   above-last cmp k [] q qs = refl
   above-last cmp k (p ∷ ps) q qs = ap (λ j. below_key cmp j k) (last-append p.0 ps q qs)
 
-  last-here : (lev : K → ℕ) (b : ℕ) (ts : List (Tree K D)) (i : ℕ) (x : Tree K D) → suc i ≡ length ts → IsEdge lev b ts → HasNode (get_or ts i x) × ((ps : List (K × D)) × (edge_pairs ts ≡ ps ++ pairs (get_or ts i x)))
+  last-here : (lev : K → ℕ) (b : ℕ) (ts : List (Tree K D)) (i : ℕ) (x : Tree K D) → suc i ≡ length ts → IsEdge lev b ts → HasNode (get_or ts i x)
+      × ((ps : List (K × D)) × (edge_pairs ts ≡ ps ++ pairs (get_or ts i x)))
   last-here lev b [] i x e a = absurd (omega (arith, e))
   last-here lev b (t ∷ []) zero x e a = (a.1.0, ([], append-nil (pairs t)))
   last-here lev b (t ∷ []) (suc i) x e a = absurd (omega (arith, e))

@@ -46,8 +46,13 @@ module _ {K : Type 0} (cmp : K → K → Ordering) (bytes_of : K → List ℕ) (
       row_same (node h k d r) (high h') in_a in_b m m' w = absurd w
       row_same (node h k d r) (node h' k' d' r') in_a in_b m m' w =
           same-append cmp (held_pairs h) ((k, d) ∷ row_pairs r) (held_pairs h') ((k', d') ∷ row_pairs r')
-          (held_same h h' (λ x p. in_a x (inl p)) (λ x p. in_b x (inl p)) (each-before Measured (held_pairs h) ((k, d) ∷ row_pairs r) m) (each-before Measured (held_pairs h') ((k', d') ∷ row_pairs r') m') w.0)
-          (tell k k' w.1, w.2, row_same r r' (λ x p. in_a x (inr p)) (λ x p. in_b x (inr p)) (each-behind Measured (held_pairs h) ((k, d) ∷ row_pairs r) m).1 (each-behind Measured (held_pairs h') ((k', d') ∷ row_pairs r') m').1 w.3)
+          (held_same h h' (λ x p. in_a x (inl p)) (λ x p. in_b x (inl p)) (each-before Measured (held_pairs h) ((k, d) ∷ row_pairs r) m)
+          (each-before Measured (held_pairs h') ((k', d') ∷ row_pairs r') m') w.0) (
+            tell k k' w.1,
+            w.2,
+            row_same r r' (λ x p. in_a x (inr p)) (λ x p. in_b x (inr p)) (each-behind Measured (held_pairs h) ((k, d) ∷ row_pairs r) m).1
+                (each-behind Measured (held_pairs h') ((k', d') ∷ row_pairs r') m').1 w.3,
+          )
 
       held_same : (h h' : Held K (List ℕ)) → ((x : Tree K (List ℕ)) → IsPageInHeld x h → A x) → ((x : Tree K (List ℕ)) → IsPageInHeld x h' → B x)
           → AllByRecursion Measured (held_pairs h) → AllByRecursion Measured (held_pairs h') → SameBelow V2 bytes_of h h' → SameMap cmp (λ d e. d ≡ e) (held_pairs h) (held_pairs h')
@@ -58,7 +63,8 @@ module _ {K : Type 0} (cmp : K → K → Ordering) (bytes_of : K → List ℕ) (
 
   module _ (digest_of : K → List ℕ) (base : ℕ) (respects : (x y : K) → Same cmp x y → bytes_of x ≡ bytes_of y) where
     -- the pairs of a tree of a small map
-    tree_measured : (ps m : List (K × List ℕ)) → SameMap cmp (λ d e. d ≡ e) ps m → AllByRecursion (λ p. length (bytes_of p.0) < 2 ^ 64) m → AllByRecursion (λ p. length p.1 ≡ n) m → AllByRecursion Measured ps
+    tree_measured : (ps m : List (K × List ℕ)) → SameMap cmp (λ d e. d ≡ e) ps m → AllByRecursion (λ p. length (bytes_of p.0) < 2 ^ 64) m
+        → AllByRecursion (λ p. length p.1 ≡ n) m → AllByRecursion Measured ps
     tree_measured [] m s a b = tt
     tree_measured (p ∷ ps) [] s a b = absurd s
     tree_measured (p ∷ ps) (q ∷ qs) s a b = (
@@ -68,7 +74,8 @@ module _ {K : Type 0} (cmp : K → K → Ordering) (bytes_of : K → List ℕ) (
 
     -- the page part of faithful digests
     pub faithful_pages : ((x y : K) → bytes_of x ≡ bytes_of y → Same cmp x y) → (a b : List (K × List ℕ)) → IsSmall cmp digest_of base bytes_of n a → IsSmall cmp digest_of base bytes_of n b
-        → NoCollision cmp digest_of base V2 bytes_of a b → HasFaithfulPages cmp (IsPageOf cmp digest_of base) (IsPageOf cmp digest_of base) (page_digest V2 bytes_of) (page_digest V2 bytes_of) pairs a b
+        → NoCollision cmp digest_of base V2 bytes_of a b
+        → HasFaithfulPages cmp (IsPageOf cmp digest_of base) (IsPageOf cmp digest_of base) (page_digest V2 bytes_of) (page_digest V2 bytes_of) pairs a b
     faithful_pages tell a b f g no_collision s t (u, is_u, in_u) (v, is_v, in_v) e =
         tree_same tell (λ x. IsPageOf cmp digest_of base x a) (λ x. IsPageOf cmp digest_of base x b) f.pages g.pages no_collision s t
         (λ x p. (u, is_u, page_in x s u p in_u)) (λ x p. (v, is_v, page_in x t v p in_v))

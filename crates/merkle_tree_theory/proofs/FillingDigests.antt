@@ -39,7 +39,8 @@ module _ {K : Type 0} (format : PageFormat) (bytes_of : K → List ℕ) where
       ap (λ xs. node_stream e ++ xs) (row_stream-row es h) ∙ sym (append_assoc (node_stream e) (flat_map node_stream es) (held_stream format bytes_of h))
       ∙ ap (λ xs. xs ++ held_stream format bytes_of h) (sym (flat_map-cons node_stream e es))
 
-  pub caches_at : (es : List (Node K (List ℕ))) (h : Held K (List ℕ)) → RowCachesHold format bytes_of (row es h) → (i : ℕ) (d : Node K (List ℕ)) → i < length es → HeldCachesHold format bytes_of (get_or es i d).lt
+  pub caches_at : (es : List (Node K (List ℕ))) (h : Held K (List ℕ)) → RowCachesHold format bytes_of (row es h) → (i : ℕ) (d : Node K (List ℕ))
+      → i < length es → HeldCachesHold format bytes_of (get_or es i d).lt
   caches_at [] h c i d r = absurd (omega arith)
   caches_at (e ∷ es) h c zero d r = c.0
   caches_at (e ∷ es) h c (suc i) d r = caches_at es h c.1 i d (omega arith)
@@ -61,7 +62,8 @@ module _ {K : Type 0} (format : PageFormat) (bytes_of : K → List ℕ) where
   row_of_caches l (Some d) r t e c = let P : Tree K (List ℕ) → Type 0 = CachesHold format bytes_of in (subst P (sym e) c).2
 
   -- a page with a digest is tree_with_digests, and that is its digest
-  pub filled_of_caches : (l : ℕ) (d : List ℕ) (r : Row K (List ℕ)) (t : Tree K (List ℕ)) → page l (Some d) r ≡ t → CachesHold format bytes_of t → (t ≡ tree_with_digests format bytes_of t) × (d ≡ page_digest format bytes_of t)
+  pub filled_of_caches : (l : ℕ) (d : List ℕ) (r : Row K (List ℕ)) (t : Tree K (List ℕ)) → page l (Some d) r ≡ t → CachesHold format bytes_of t
+      → (t ≡ tree_with_digests format bytes_of t) × (d ≡ page_digest format bytes_of t)
   filled_of_caches l d r t e c =
       let P : Tree K (List ℕ) → Type 0 = CachesHold format bytes_of in
       let h = subst P (sym e) c in

@@ -39,7 +39,8 @@ module _ {K D : Type 0} (cmp : K → K → Ordering) (k : K) (d : D) where
   pub put_at : (es : List (Node K D)) (h : Held K D) (i : ℕ) (x : Node K D) → i ≡ place cmp k es → i < length es → cmp k (get_or es i x).key ≢ Equal
       → row_put cmp k d (row es h) ≡ row (insert (slice_set es i (with_lt (get_or es i x) (held_upper cmp k (get_or es i x).lt))) i (new_node k d (held_lower cmp k (get_or es i x).lt))) h
   put_at es h i x =
-      let parted : ℕ → List (Node K D) → List (Node K D) = λ j fs. insert (slice_set fs j (with_lt (get_or fs j x) (held_upper cmp k (get_or fs j x).lt))) j (new_node k d (held_lower cmp k (get_or fs j x).lt)) in
+      let parted : ℕ → List (Node K D) → List (Node K D) =
+      λ j fs. insert (slice_set fs j (with_lt (get_or fs j x) (held_upper cmp k (get_or fs j x).lt))) j (new_node k d (held_lower cmp k (get_or fs j x).lt)) in
       walk_gap puts h (λ j fs. row (parted j fs) h) (λ j e fs. refl) (λ e fs. refl) es i x
 
   pub put_equal : (es : List (Node K D)) (h : Held K D) (i : ℕ) (x : Node K D) → i ≡ place cmp k es → i < length es → cmp k (get_or es i x).key ≡ Equal

@@ -120,7 +120,8 @@ module _ {K X : Type 0} (cmp : K → K → Ordering) (g : Gap K) where
   each_within [] = tt
   each_within (p ∷ ps) = go (which (is_in_gap cmp p.0 g)) (each_within ps)
     where
-      go : (is_in_gap cmp p.0 g ≡ false) ⊎ (is_in_gap cmp p.0 g ≡ true) → AllByRecursion (λ q. IsInGap cmp q.0 g) (pairs_within cmp g ps) → AllByRecursion (λ q. IsInGap cmp q.0 g) (pairs_within cmp g (p ∷ ps))
+      go : (is_in_gap cmp p.0 g ≡ false) ⊎ (is_in_gap cmp p.0 g ≡ true) → AllByRecursion (λ q. IsInGap cmp q.0 g) (pairs_within cmp g ps)
+          → AllByRecursion (λ q. IsInGap cmp q.0 g) (pairs_within cmp g (p ∷ ps))
       go (inl e) a = rw e a
       go (inr e) a = rw e (in_gap_from_test cmp p.0 g e, a)
 

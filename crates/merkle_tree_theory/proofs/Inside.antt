@@ -119,7 +119,8 @@ module _ {K : Type 0} (cmp : K → K → Ordering) (o : IsTotalOrder cmp) (lev :
   -- the whole tree as an item by the cached digest of its root page
   pub whole_is : (t : Tree K (List ℕ)) (d : List ℕ) → HasNode t → CachesHold format bytes_of t → cache t ≡ Some d → page_items everywhere (Some d) ≡ whole_item format bytes_of t
   whole_is (page l c (high h)) d n q e = absurd n
-  whole_is (page l c (node h k x r)) d n q e = ap (page_items everywhere) (ap Some (sym (true_digest format bytes_of (page l c (node h k x r)) (page l c (node h k x r)) d q (itself (page l c (node h k x r))) e)))
+  whole_is (page l c (node h k x r)) d n q e =
+      ap (page_items everywhere) (ap Some (sym (true_digest format bytes_of (page l c (node h k x r)) (page l c (node h k x r)) d q (itself (page l c (node h k x r))) e)))
 
 module _ {K X : Type 0} (cmp : K → K → Ordering) (o : IsTotalOrder cmp) where
   -- the value at a key is that of its pair

@@ -38,11 +38,19 @@ module _ {K D : Type 0} where
     context_row : (s : Tree K D) (r : Row K D) → IsPageInRow s r → Context (pairs s) (row_pairs r)
     context_row s (high h) i = context_held s h i
     context_row s (node h k d r) (inl i) =
-        let (pre, post, e) = context_held s h i in
-        (pre, post ++ ((k, d) ∷ row_pairs r), ap (λ w. w ++ ((k, d) ∷ row_pairs r)) e ∙ append_assoc pre (pairs s ++ post) ((k, d) ∷ row_pairs r) ∙ ap (λ w. pre ++ w) (append_assoc (pairs s) post ((k, d) ∷ row_pairs r)))
+        let (pre, post, e) = context_held s h i in (
+          pre,
+          post ++ ((k, d) ∷ row_pairs r),
+          ap (λ w. w ++ ((k, d) ∷ row_pairs r)) e ∙ append_assoc pre (pairs s ++ post) ((k, d) ∷ row_pairs r)
+              ∙ ap (λ w. pre ++ w) (append_assoc (pairs s) post ((k, d) ∷ row_pairs r)),
+        )
     context_row s (node h k d r) (inr i) =
-        let (pre, post, e) = context_row s r i in
-        ((held_pairs h ++ ((k, d) ∷ [])) ++ pre, post, ap (λ w. held_pairs h ++ ((k, d) ∷ w)) e ∙ sym (append_assoc (held_pairs h) ((k, d) ∷ []) (pre ++ (pairs s ++ post))) ∙ sym (append_assoc (held_pairs h ++ ((k, d) ∷ [])) pre (pairs s ++ post)))
+        let (pre, post, e) = context_row s r i in (
+          (held_pairs h ++ ((k, d) ∷ [])) ++ pre,
+          post,
+          ap (λ w. held_pairs h ++ ((k, d) ∷ w)) e
+              ∙ sym (append_assoc (held_pairs h) ((k, d) ∷ []) (pre ++ (pairs s ++ post))) ∙ sym (append_assoc (held_pairs h ++ ((k, d) ∷ [])) pre (pairs s ++ post)),
+        )
 
     context_held : (s : Tree K D) (h : Held K D) → IsPageInHeld s h → Context (pairs s) (held_pairs h)
     context_held s nothing i = absurd i
@@ -125,7 +133,8 @@ low_self : {K : Type 0} (cmp : K → K → Ordering) (o : IsTotalOrder cmp) (k :
 low_self cmp o k l = not_low_self cmp o k l
 
 -- what the map has in a gap, the page that fills it has
-pub get_filling : {K D : Type 0} (cmp : K → K → Ordering) (o : IsTotalOrder cmp) (root t : Tree K D) (g : Gap K) (k : K) (d : D) → Fills cmp g t root → IsInGap cmp k g → get cmp (pairs root) k ≡ Some d → get cmp (pairs t) k ≡ Some d
+pub get_filling : {K D : Type 0} (cmp : K → K → Ordering) (o : IsTotalOrder cmp) (root t : Tree K D) (g : Gap K) (k : K) (d : D) → Fills cmp g t root
+    → IsInGap cmp k g → get cmp (pairs root) k ≡ Some d → get cmp (pairs t) k ≡ Some d
 get_filling cmp o root t g k d f i e = ap (λ w. get cmp w k) (sym f.all) ∙ get_within cmp o g (pairs root) k d i e
 
 module _ {K : Type 0} (cmp : K → K → Ordering) (o : IsTotalOrder cmp) (format : PageFormat) (bytes_of : K → List ℕ) (root : Tree K (List ℕ)) (m : IsMap cmp (pairs root)) where
@@ -163,7 +172,8 @@ module _ {K : Type 0} (cmp : K → K → Ordering) (o : IsTotalOrder cmp) (forma
     pub rest_all : AreAll (part_behind g k) (row_pairs r)
     rest_all =
         within_after cmp o g k key_in (pairs root) ∙ ap (rows_at (is_after cmp (Some k))) all ∙ filter-append (λ (p : K × List ℕ). is_after cmp (Some k) p.0) (held_pairs h) ((k, d) ∷ row_pairs r)
-        ∙ ap (λ w. w ++ rows_at (is_after cmp (Some k)) ((k, d) ∷ row_pairs r)) (none_pass (is_after cmp (Some k)) (held_pairs h) (all_not (held_pairs h) (map-before cmp (held_pairs h) (k, d) (row_pairs r) up)))
+        ∙ ap (λ w. w ++ rows_at (is_after cmp (Some k)) ((k, d) ∷ row_pairs r))
+        (none_pass (is_after cmp (Some k)) (held_pairs h) (all_not (held_pairs h) (map-before cmp (held_pairs h) (k, d) (row_pairs r) up)))
         ∙ rw (not_less (low_self cmp o k)) (all_pass (is_after cmp (Some k)) (row_pairs r) rest_up.0)
       where
         not_less : {b : Bool} → (b ≡ true → ⊥) → b ≡ false
@@ -175,7 +185,8 @@ module _ {K : Type 0} (cmp : K → K → Ordering) (o : IsTotalOrder cmp) (forma
         all_not (p ∷ ps) a = (not_less (λ low. not_both cmp o p.0 k (low_is_up cmp o p.0 k a.0) low), all_not ps a.1)
 
   module _ (lev : K → ℕ) where
-    held_valid : (g : Gap K) (l : ℕ) (h : Held K (List ℕ)) → IsGap lev l h → AreAll g (held_pairs h) → ((s : Tree K (List ℕ)) → IsPageInHeld s h → IsPageIn s root) → Valid l (held_items (λ t. Some (page_digest format bytes_of t)) g h)
+    held_valid : (g : Gap K) (l : ℕ) (h : Held K (List ℕ)) → IsGap lev l h → AreAll g (held_pairs h)
+        → ((s : Tree K (List ℕ)) → IsPageInHeld s h → IsPageIn s root) → Valid l (held_items (λ t. Some (page_digest format bytes_of t)) g h)
     held_valid g l nothing c all i = tt
     held_valid g l (below t) c all i = ((t, record { inside = i t (itself t); some = c.1; all = all }, c.0, refl), tt)
 
@@ -200,7 +211,8 @@ module _ {K : Type 0} (cmp : K → K → Ordering) (o : IsTotalOrder cmp) (forma
   any_append P (x ∷ xs) ys (inr a) = inr (any_append P xs ys (inr a))
 
   -- each key of a row is in an item of it
-  held_at : (g : Gap K) (h : Held K (List ℕ)) (k : K) (d : List ℕ) → AreAll g (held_pairs h) → get cmp (held_pairs h) k ≡ Some d → AnyByRecursion (HasItemAt cmp k) (held_items (λ t. Some (page_digest format bytes_of t)) g h)
+  held_at : (g : Gap K) (h : Held K (List ℕ)) (k : K) (d : List ℕ) → AreAll g (held_pairs h) → get cmp (held_pairs h) k ≡ Some d
+      → AnyByRecursion (HasItemAt cmp k) (held_items (λ t. Some (page_digest format bytes_of t)) g h)
   held_at g nothing k d all e = absurd (cc)
   held_at g (below t) k d all e =
       inl (found_with cmp o (λ j. IsInGap cmp j g) (λ i j s q. in_gap-same cmp o g i j s q) (pairs t) k d (subst (AllByRecursion (λ p. IsInGap cmp p.0 g)) all (each_within cmp g (pairs root))) e)
@@ -216,14 +228,16 @@ module _ {K : Type 0} (cmp : K → K → Ordering) (o : IsTotalOrder cmp) (forma
       (λ q. any_append (HasItemAt cmp k) front behind (inr (inr (row_at rest r k d (rest_all g h x c r all a) (map-rest cmp (held_pairs h) ((x, c) ∷ row_pairs r) a).1 q))))
       (λ q. any_append (HasItemAt cmp k) front behind (inr (inl (tied_back o x k (is_equal (cmp x k) q)))))
     where
-      go : {Q : Type 0} → (get cmp (held_pairs h) k ≡ Some d) ⊎ ((is_eq (cmp x k) ≡ true) ⊎ (get cmp (row_pairs r) k ≡ Some d)) → (get cmp (held_pairs h) k ≡ Some d → Q) → (get cmp (row_pairs r) k ≡ Some d → Q) → (is_eq (cmp x k) ≡ true → Q) → Q
+      go : {Q : Type 0} → (get cmp (held_pairs h) k ≡ Some d) ⊎ ((is_eq (cmp x k) ≡ true) ⊎ (get cmp (row_pairs r) k ≡ Some d))
+          → (get cmp (held_pairs h) k ≡ Some d → Q) → (get cmp (row_pairs r) k ≡ Some d → Q) → (is_eq (cmp x k) ≡ true → Q) → Q
       go (inl q) f g n = f q
       go (inr (inl q)) f g n = n q
       go (inr (inr q)) f g n = g q
 
   -- the items of the outline of a page that fills a gap are of the tree, on lower levels, and each key of the gap is in one of them
   pub outline_down : (lev : K → ℕ) → IsCanonicalRoot lev root → (t : Tree K (List ℕ)) (g : Gap K) → Fills cmp g t root
-      → Valid (level t) (outline_of format bytes_of g t) × ((k : K) (d : List ℕ) → get cmp (pairs root) k ≡ Some d → IsInGap cmp k g → AnyByRecursion (HasItemAt cmp k) (outline_of format bytes_of g t))
+      → Valid (level t) (outline_of format bytes_of g t)
+      × ((k : K) (d : List ℕ) → get cmp (pairs root) k ≡ Some d → IsInGap cmp k g → AnyByRecursion (HasItemAt cmp k) (outline_of format bytes_of g t))
   outline_down lev canonical (page l c r) g f =
       let t = page l c r in
       let up = inside_map cmp o t root f.inside m in (
@@ -236,7 +250,8 @@ module _ {K : Type 0} (cmp : K → K → Ordering) (o : IsTotalOrder cmp) (forma
       → Valid (level root + 1) (whole_item format bytes_of root) × ((k : K) (d : List ℕ) → get cmp (pairs root) k ≡ Some d → AnyByRecursion (HasItemAt cmp k) (whole_item format bytes_of root))
   whole_down lev canonical = by root canonical
     where
-      by : (t : Tree K (List ℕ)) → IsCanonicalRoot lev t → AllByRecursion (IsItemOf format bytes_of cmp t (level t + 1)) (whole_item format bytes_of t) × ((k : K) (d : List ℕ) → get cmp (pairs t) k ≡ Some d → AnyByRecursion (HasItemAt cmp k) (whole_item format bytes_of t))
+      by : (t : Tree K (List ℕ)) → IsCanonicalRoot lev t → AllByRecursion (IsItemOf format bytes_of cmp t (level t + 1)) (whole_item format bytes_of t)
+          × ((k : K) (d : List ℕ) → get cmp (pairs t) k ≡ Some d → AnyByRecursion (HasItemAt cmp k) (whole_item format bytes_of t))
       by (page l c (high nothing)) g = (tt, λ k d e. absurd (cc))
       by (page l c (high (below t))) g = absurd g
       by (page l c (node h k d r)) g =

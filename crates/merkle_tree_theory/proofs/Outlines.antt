@@ -21,7 +21,8 @@ module _ {K D : Type 0} (digest_of : Tree K D → Option (List ℕ)) where
   front_items g [] = []
   front_items g (e ∷ es) = held_items digest_of (part_before g e.key) e.lt ++ of_node e.key e.digest ∷ front_items (part_behind g e.key) es
 
-  pub row_items-row : (g : Gap K) (es : List (Node K D)) (h : Held K D) → row_items digest_of g (row es h) ≡ front_items g es ++ held_items digest_of (record { after = bound_behind g.after es; before = g.before }) h
+  pub row_items-row : (g : Gap K) (es : List (Node K D)) (h : Held K D)
+      → row_items digest_of g (row es h) ≡ front_items g es ++ held_items digest_of (record { after = bound_behind g.after es; before = g.before }) h
   row_items-row g [] h = refl
   row_items-row g (e ∷ es) h =
       let first = held_items digest_of (part_before g e.key) e.lt in
@@ -37,7 +38,8 @@ module _ {K D : Type 0} (digest_of : Tree K D → Option (List ℕ)) where
       let first = held_items digest_of (part_before g f.key) f.lt in
       let rest = part_behind g f.key in
       ap (λ w. first ++ of_node f.key f.digest ∷ w) (front_items-more rest es e)
-      ∙ sym (append_assoc first (of_node f.key f.digest ∷ front_items rest es) (held_items digest_of (record { after = bound_behind (Some f.key) es; before = Some e.key }) e.lt ++ of_node e.key e.digest ∷ []))
+      ∙ sym (append_assoc first (of_node f.key f.digest ∷ front_items rest es)
+      (held_items digest_of (record { after = bound_behind (Some f.key) es; before = Some e.key }) e.lt ++ of_node e.key e.digest ∷ []))
 
   -- a list that got the items of all nodes gets those of the row with what the high page holds
   pub listed-row : (g : Gap K) (es : List (Node K D)) (h : Held K D) (old now : List (Item K D)) (a : Option K) → now ≡ old ++ front_items g es → a ≡ bound_behind g.after es

@@ -83,9 +83,11 @@ module _ {K D : Type 0} where
 
 module _ {K D : Type 0} (hang : Held K D → Row K D → Row K D) (n : ℕ) (bs : List (Box (Tree K D) Global)) (b : Box (Tree K D) Global) (h : Held K D) where
   -- a step of the loop that hangs pages: the page t is page_chain in the form u, and then loses its digest or not
-  pub hang_stale : (t u v : Tree K D) → t ≡ b.value → u ≡ page_with_row 0 t (hang h (row_of_page t)) → v ≡ page_with_row 1 u (row_of_page u) → length bs < n → page_chain hang n bs (below v) ≡ page_chain hang n (bs ++ b ∷ []) h
+  pub hang_stale : (t u v : Tree K D) → t ≡ b.value → u ≡ page_with_row 0 t (hang h (row_of_page t)) → v ≡ page_with_row 1 u (row_of_page u) → length bs < n
+      → page_chain hang n bs (below v) ≡ page_chain hang n (bs ++ b ∷ []) h
   hang_stale t u v e f g r =
-      ap (λ x. page_chain hang n bs (below x)) (g ∙ ap (λ x. page_with_row 1 x (row_of_page x)) (f ∙ ap (λ x. page_with_row 0 x (hang h (row_of_page x))) e) ∙ remade-both b.value (hang h (row_of_page b.value)))
+      ap (λ x. page_chain hang n bs (below x))
+      (g ∙ ap (λ x. page_with_row 1 x (row_of_page x)) (f ∙ ap (λ x. page_with_row 0 x (hang h (row_of_page x))) e) ∙ remade-both b.value (hang h (row_of_page b.value)))
       ∙ hung-stale hang n bs b h r
 
   pub hang_kept : (t u : Tree K D) → t ≡ b.value → u ≡ page_with_row 0 t (hang h (row_of_page t)) → n ≤ length bs → page_chain hang n bs (below u) ≡ page_chain hang n (bs ++ b ∷ []) h
@@ -124,7 +126,9 @@ module _ {K D : Type 0} where
 pub page_length-is : {K D : Type 0} (t : Tree K D) → page_length t ≡ row_length (row_of_page t)
 page_length-is (page l c r) = refl
 
-pub remade-first : {K D : Type 0} (t : Tree K D) (i : ℕ) → page_with_row 0 (page_with_row 1 t (row_drop i (row_of_page t))) (with_first nothing (row_of_page (page_with_row 1 t (row_drop i (row_of_page t))))) ≡ page_with_row 1 t (with_first nothing (row_drop i (row_of_page t)))
+pub remade-first : {K D : Type 0} (t : Tree K D) (i : ℕ)
+    → page_with_row 0 (page_with_row 1 t (row_drop i (row_of_page t)))
+    (with_first nothing (row_of_page (page_with_row 1 t (row_drop i (row_of_page t))))) ≡ page_with_row 1 t (with_first nothing (row_drop i (row_of_page t)))
 remade-first (page l c r) i = refl
 
 pub first-remade : {K D : Type 0} (t : Tree K D) (i : ℕ) → first_of (row_of_page (page_with_row 1 t (row_drop i (row_of_page t)))) ≡ first_of (row_drop i (row_of_page t))

@@ -101,7 +101,8 @@ module _ {K D : Type 0} (cmp : K → K → Ordering) where
     over_high [] h all = refl
     over_high (e ∷ es) h all = go (over_high es h) (which (is_after cmp g.after e.key)) all
       where
-        go : (place_after cmp g.after es ≡ length es → row_over cmp g t (row es h) ≡ held_over cmp g h) → (is_after cmp g.after e.key ≡ false) ⊎ (is_after cmp g.after e.key ≡ true) → place_after cmp g.after (e ∷ es) ≡ length (e ∷ es) → row_over cmp g t (row (e ∷ es) h) ≡ held_over cmp g h
+        go : (place_after cmp g.after es ≡ length es → row_over cmp g t (row es h) ≡ held_over cmp g h) → (is_after cmp g.after e.key ≡ false)
+            ⊎ (is_after cmp g.after e.key ≡ true) → place_after cmp g.after (e ∷ es) ≡ length (e ∷ es) → row_over cmp g t (row (e ∷ es) h) ≡ held_over cmp g h
         go more (inl n) q = let r : suc (place_after cmp g.after es) ≡ length (e ∷ es) = (rw n at q) in rw n (more (omega (arith, r)))
         go more (inr n) q = let r : 0 ≡ length (e ∷ es) = (rw n at q) in absurd (omega (arith, r))
 
@@ -113,7 +114,8 @@ module _ {K D : Type 0} (cmp : K → K → Ordering) where
         Given : ℕ → Type 0
         Given i = row_over cmp g t (row (e ∷ es) h) ≡ (if (is_before cmp g.before (get_or (e ∷ es) i x).key) then (Some t) else (held_over cmp g (get_or (e ∷ es) i x).lt))
 
-        go : ((j : ℕ) → j ≡ place_after cmp g.after es → j < length es → row_over cmp g t (row es h) ≡ (if (is_before cmp g.before (get_or es j x).key) then (Some t) else (held_over cmp g (get_or es j x).lt)))
+        go : ((j : ℕ) → j ≡ place_after cmp g.after es → j < length es
+            → row_over cmp g t (row es h) ≡ (if (is_before cmp g.before (get_or es j x).key) then (Some t) else (held_over cmp g (get_or es j x).lt)))
             → (is_after cmp g.after e.key ≡ false) ⊎ (is_after cmp g.after e.key ≡ true) → (i : ℕ) → i ≡ place_after cmp g.after (e ∷ es) → i < length (e ∷ es) → Given i
         go more (inl n) zero q r = let z : 0 ≡ suc (place_after cmp g.after es) = (rw n at q) in absurd (omega (arith, z))
         go more (inl n) (suc i) q r = let z : suc i ≡ suc (place_after cmp g.after es) = (rw n at q) in rw n (more i (omega (arith, z)) (omega (arith, r)))

@@ -118,7 +118,8 @@ module _ {K : Type 0} (cmp : K → K → Ordering) where
       some x y e = cc
 
   -- the range of a page with a node and a cached digest is from its first to its last key
-  pub range-ends : {D : Type 0} (l : ℕ) (o : Option (List ℕ)) (es : List (Node K D)) (h : Held K D) (d : List ℕ) (a b : K) → o ≡ Some d → length es ≢ 0 → Some a ≡ first_key_of (row_pairs (row es h)) → Some b ≡ last_key_of (row_pairs (row es h))
+  pub range-ends : {D : Type 0} (l : ℕ) (o : Option (List ℕ)) (es : List (Node K D)) (h : Held K D) (d : List ℕ) (a b : K) → o ≡ Some d → length es ≢ 0
+      → Some a ≡ first_key_of (row_pairs (row es h)) → Some b ≡ last_key_of (row_pairs (row es h))
       → range_if a b d ≡ range_of cmp (page l o (row es h))
   range-ends l None es h d a b o n e f = absurd (cc)
   range-ends l (Some c) [] h d a b o n e f = absurd (n refl)
@@ -128,7 +129,8 @@ module _ {K : Type 0} (cmp : K → K → Ordering) where
       some x y e = cc
 
   -- what `PageRange::try_new` answers
-  pub made-range : {R : Type 0} (f : R → Entry K (List ℕ)) (o : Option R) (a b : K) (d : List ℕ) → (IsSome o ↔ Upto cmp a b) → IfSome o (λ r. f r ≡ record { first = a; last = b; digest = d }) → option_map f o ≡ range_if a b d
+  pub made-range : {R : Type 0} (f : R → Entry K (List ℕ)) (o : Option R) (a b : K) (d : List ℕ) → (IsSome o ↔ Upto cmp a b)
+      → IfSome o (λ r. f r ≡ record { first = a; last = b; digest = d }) → option_map f o ≡ range_if a b d
   made-range f None a b d q e = by (which (is_gt (cmp a b)))
     where
       by : (is_gt (cmp a b) ≡ false) ⊎ (is_gt (cmp a b) ≡ true) → None ≡ range_if a b d

@@ -45,13 +45,15 @@ module _ {K X : Type 0} (cmp : K → K → Ordering) (o : IsTotalOrder cmp) wher
   none_pass s [] a = refl
   none_pass s (r ∷ rs) a = rw (fails cmp o r.0 s (λ i. not_both cmp o r.0 s.last i.1 a.0)) (none_pass s rs a.1)
 
-  stretch : (f : K) (p : K × X) (ps post : List (K × X)) → Upto cmp f p.0 → IsMap cmp ((p ∷ ps) ++ post) → rows_at (λ k. is_in cmp k (record { first = f; last = last_key p.0 ps })) ((p ∷ ps) ++ post) ≡ p ∷ ps
+  stretch : (f : K) (p : K × X) (ps post : List (K × X)) → Upto cmp f p.0 → IsMap cmp ((p ∷ ps) ++ post)
+      → rows_at (λ k. is_in cmp k (record { first = f; last = last_key p.0 ps })) ((p ∷ ps) ++ post) ≡ p ∷ ps
   stretch f p [] post h a = rw (test_from_in cmp o p.0 (record { first = f; last = p.0 }) (h, up_self cmp o p.0)) (ap (λ w. p ∷ w) (none_pass (record { first = f; last = p.0 }) post a.0))
   stretch f p (q ∷ qs) post h a =
       rw (test_from_in cmp o p.0 (record { first = f; last = last_key q.0 qs }) (h, last_after p.0 q qs post (low_is_up cmp o p.0 q.0 a.0.0) a.1))
       (ap (λ w. p ∷ w) (stretch f q qs post (up_up cmp o f p.0 q.0 h (low_is_up cmp o p.0 q.0 a.0.0)) a.1))
 
-  pub after_front : (pre : List (K × X)) (p : K × X) (ps post : List (K × X)) → IsMap cmp (pre ++ ((p ∷ ps) ++ post)) → rows_at (λ k. is_in cmp k (record { first = p.0; last = last_key p.0 ps })) (pre ++ ((p ∷ ps) ++ post)) ≡ p ∷ ps
+  pub after_front : (pre : List (K × X)) (p : K × X) (ps post : List (K × X)) → IsMap cmp (pre ++ ((p ∷ ps) ++ post))
+      → rows_at (λ k. is_in cmp k (record { first = p.0; last = last_key p.0 ps })) (pre ++ ((p ∷ ps) ++ post)) ≡ p ∷ ps
   after_front [] p ps post a = stretch p.0 p ps post (up_self cmp o p.0) a
   after_front (x ∷ pre) p ps post a =
       rw (fails cmp o x.0 (record { first = p.0; last = last_key p.0 ps }) (λ i. not_both cmp o p.0 x.0 i.0 (each-at (λ r. Below cmp x.0 r.0) pre p (ps ++ post) a.0))) (after_front pre p ps post a.1)
@@ -72,27 +74,33 @@ module _ {K : Type 0} (cmp : K → K → Ordering) (o : IsTotalOrder cmp) (forma
   abbrev Right : Entry K (List ℕ) → Type 0
   Right e = (s : Tree K (List ℕ)) × IsPageIn s whole × (page_digest format bytes_of s ≡ e.digest) × (pairs s ≡ entry_rows cmp e m)
 
-  own : (t : Tree K (List ℕ)) (ps : List (K × List ℕ)) (d : List ℕ) (pre post : List (K × List ℕ)) → pairs t ≡ ps → page_digest format bytes_of t ≡ d → m ≡ pre ++ (ps ++ post) → IsPageIn t whole → AllByRecursion Right (entry_of ps d)
+  own : (t : Tree K (List ℕ)) (ps : List (K × List ℕ)) (d : List ℕ) (pre post : List (K × List ℕ)) → pairs t ≡ ps → page_digest format bytes_of t ≡ d
+      → m ≡ pre ++ (ps ++ post) → IsPageIn t whole → AllByRecursion Right (entry_of ps d)
   own t [] d pre post u v e i = tt
   own t (p ∷ ps) d pre post u v e i =
       ((t, i, v, u ∙ sym (ap (λ n. rows_at (λ k. is_in cmp k (record { first = p.0; last = last_key p.0 ps })) n) e ∙ after_front cmp o pre p ps post (subst (IsMap cmp) e a))), tt)
 
   mutual
-    of_tree : (t : Tree K (List ℕ)) (pre post : List (K × List ℕ)) → m ≡ pre ++ (pairs t ++ post) → ((s : Tree K (List ℕ)) → IsPageIn s t → IsPageIn s whole) → AllByRecursion Right (ranges_of format bytes_of t)
+    of_tree : (t : Tree K (List ℕ)) (pre post : List (K × List ℕ)) → m ≡ pre ++ (pairs t ++ post) → ((s : Tree K (List ℕ)) → IsPageIn s t → IsPageIn s whole)
+        → AllByRecursion Right (ranges_of format bytes_of t)
     of_tree (page l c r) pre post e i =
-        each-append Right (entry_of (row_pairs r) (page_digest format bytes_of (page l c r))) (row_ranges format bytes_of r) (own (page l c r) (row_pairs r) (page_digest format bytes_of (page l c r)) pre post refl refl e (i (page l c r) (itself (page l c r))))
+        each-append Right (entry_of (row_pairs r) (page_digest format bytes_of (page l c r))) (row_ranges format bytes_of r)
+        (own (page l c r) (row_pairs r) (page_digest format bytes_of (page l c r)) pre post refl refl e (i (page l c r) (itself (page l c r))))
         (of_row r pre post e (λ s h. i s (inr h)))
 
-    of_row : (r : Row K (List ℕ)) (pre post : List (K × List ℕ)) → m ≡ pre ++ (row_pairs r ++ post) → ((s : Tree K (List ℕ)) → IsPageInRow s r → IsPageIn s whole) → AllByRecursion Right (row_ranges format bytes_of r)
+    of_row : (r : Row K (List ℕ)) (pre post : List (K × List ℕ)) → m ≡ pre ++ (row_pairs r ++ post)
+        → ((s : Tree K (List ℕ)) → IsPageInRow s r → IsPageIn s whole) → AllByRecursion Right (row_ranges format bytes_of r)
     of_row (high h) pre post e i = of_held h pre post e i
     of_row (node h k d r) pre post e i =
         each-append Right (held_ranges format bytes_of h) (row_ranges format bytes_of r)
         (of_held h pre (((k, d) ∷ row_pairs r) ++ post) (e ∙ ap (λ w. pre ++ w) (append_assoc (held_pairs h) ((k, d) ∷ row_pairs r) post)) (λ s j. i s (inl j)))
         (of_row r (pre ++ (held_pairs h ++ ((k, d) ∷ []))) post
-        (e ∙ ap (λ w. pre ++ w) (append_assoc (held_pairs h) ((k, d) ∷ row_pairs r) post ∙ sym (append_assoc (held_pairs h) ((k, d) ∷ []) (row_pairs r ++ post))) ∙ sym (append_assoc pre (held_pairs h ++ ((k, d) ∷ [])) (row_pairs r ++ post)))
+        (e ∙ ap (λ w. pre ++ w) (append_assoc (held_pairs h) ((k, d) ∷ row_pairs r) post
+        ∙ sym (append_assoc (held_pairs h) ((k, d) ∷ []) (row_pairs r ++ post))) ∙ sym (append_assoc pre (held_pairs h ++ ((k, d) ∷ [])) (row_pairs r ++ post)))
         (λ s j. i s (inr j)))
 
-    of_held : (h : Held K (List ℕ)) (pre post : List (K × List ℕ)) → m ≡ pre ++ (held_pairs h ++ post) → ((s : Tree K (List ℕ)) → IsPageInHeld s h → IsPageIn s whole) → AllByRecursion Right (held_ranges format bytes_of h)
+    of_held : (h : Held K (List ℕ)) (pre post : List (K × List ℕ)) → m ≡ pre ++ (held_pairs h ++ post)
+        → ((s : Tree K (List ℕ)) → IsPageInHeld s h → IsPageIn s whole) → AllByRecursion Right (held_ranges format bytes_of h)
     of_held nothing pre post e i = tt
     of_held (below t) pre post e i = of_tree t pre post e i
 
@@ -103,7 +111,8 @@ module _ {K : Type 0} (cmp : K → K → Ordering) (o : IsTotalOrder cmp) (lev :
   no_pairs l c (high (below t)) h e = absurd h
   no_pairs l c (node h k d r) g e = absurd (not-none (held_pairs h) (k, d) (row_pairs r) e)
 
-  none_none : (ps : List (K × List ℕ)) (d : List ℕ) (es : List (Entry K (List ℕ))) → (ps ≡ [] → es ≡ []) → (m : List (K × List ℕ)) → SameMap cmp (λ x y. x ≡ y) ps m → IsWhole cmp m (entry_of ps d ++ es)
+  none_none : (ps : List (K × List ℕ)) (d : List ℕ) (es : List (Entry K (List ℕ))) → (ps ≡ [] → es ≡ []) → (m : List (K × List ℕ))
+      → SameMap cmp (λ x y. x ≡ y) ps m → IsWhole cmp m (entry_of ps d ++ es)
   none_none [] d es f [] s = subst (IsWhole {D = List ℕ} cmp []) (sym (f refl)) tt
   none_none [] d es f (q ∷ qs) s = absurd s
   none_none (p ∷ ps) d es f [] s = absurd s
@@ -113,16 +122,27 @@ module _ {K : Type 0} (cmp : K → K → Ordering) (o : IsTotalOrder cmp) (lev :
   whole_root (page l c r) m h s = none_none (row_pairs r) (page_digest format bytes_of (page l c r)) (row_ranges format bytes_of r) (no_pairs l c r h) m s
 
 module _ {K : Type 0} (cmp : K → K → Ordering) (o : IsTotalOrder cmp) (digest_of : K → List ℕ) (base : ℕ) (format : PageFormat) (bytes_of : K → List ℕ) where
-  to_map : (t : Tree K (List ℕ)) (m : List (K × List ℕ)) (a : IsMap cmp (pairs t)) (es : List (Entry K (List ℕ))) → IsTreeOf cmp digest_of base t m → AllByRecursion (Right cmp o format bytes_of t (pairs t) a) es
+  to_map : (t : Tree K (List ℕ)) (m : List (K × List ℕ)) (a : IsMap cmp (pairs t)) (es : List (Entry K (List ℕ))) → IsTreeOf cmp digest_of base t m
+      → AllByRecursion (Right cmp o format bytes_of t (pairs t) a) es
       → AllByRecursion (λ e. (s : Tree K (List ℕ)) × IsPageOf cmp digest_of base s m × (page_digest format bytes_of s ≡ e.digest) × SameMap cmp (λ x y. x ≡ y) (pairs s) (entry_rows cmp e m)) es
   to_map t m a [] h r = tt
-  to_map t m a (e ∷ es) h ((s, i, d, p), rest) =
-      ((s, (t, h, i), d, subst (λ n. SameMap cmp (λ x y. x ≡ y) n (entry_rows cmp e m)) (sym p) (same_part cmp o (λ x y. x ≡ y) (λ k. is_in cmp k (span_of e)) (is_in-same cmp o (span_of e)) (pairs t) m h.1)), to_map t m a es h rest)
+  to_map t m a (e ∷ es) h ((s, i, d, p), rest) = (
+    (
+      s,
+      (t, h, i),
+      d,
+      subst (λ n. SameMap cmp (λ x y. x ≡ y) n (entry_rows cmp e m)) (sym p)
+          (same_part cmp o (λ x y. x ≡ y) (λ k. is_in cmp k (span_of e)) (is_in-same cmp o (span_of e)) (pairs t) m h.1),
+    ),
+    to_map t m a es h rest,
+  )
 
-  pub lists : (m : List (K × List ℕ)) (es : List (Entry K (List ℕ))) → IsMap cmp m → IsRangesOf cmp digest_of base format bytes_of m es → IsListing cmp (IsPageOf cmp digest_of base) (page_digest format bytes_of) pairs m es
+  pub lists : (m : List (K × List ℕ)) (es : List (Entry K (List ℕ))) → IsMap cmp m → IsRangesOf cmp digest_of base format bytes_of m es
+      → IsListing cmp (IsPageOf cmp digest_of base) (page_digest format bytes_of) pairs m es
   lists m es a (t, h, e) =
       let b = ascends cmp o (λ x y. x ≡ y) (pairs t) m h.1 a in
       record {
         whole = subst (IsWhole cmp m) (sym e) (whole_root cmp o (λ k. level_of (digest_of k) base) format bytes_of t m h.0 h.1);
-        pages = to_map t m b es h (subst (AllByRecursion (Right cmp o format bytes_of t (pairs t) b)) (sym e) (of_tree cmp o format bytes_of t (pairs t) b t [] [] (sym (append-nil (pairs t))) (λ s i. i)));
+        pages = to_map t m b es h (subst (AllByRecursion (Right cmp o format bytes_of t (pairs t) b)) (sym e)
+            (of_tree cmp o format bytes_of t (pairs t) b t [] [] (sym (append-nil (pairs t))) (λ s i. i)));
       }

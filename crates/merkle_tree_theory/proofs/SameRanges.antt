@@ -23,7 +23,8 @@ module _ {K : Type 0} (cmp : K → K → Ordering) where
     row_same-pairs (high h) (high h') s = held_same-pairs h h' s
     row_same-pairs (high h) (node h' k' d' r') s = absurd s
     row_same-pairs (node h k d r) (high h') s = absurd s
-    row_same-pairs (node h k d r) (node h' k' d' r') s = same-append cmp (held_pairs h) ((k, d) ∷ row_pairs r) (held_pairs h') ((k', d') ∷ row_pairs r') (held_same-pairs h h' s.0) (s.1, s.2, row_same-pairs r r' s.3)
+    row_same-pairs (node h k d r) (node h' k' d' r') s =
+        same-append cmp (held_pairs h) ((k, d) ∷ row_pairs r) (held_pairs h') ((k', d') ∷ row_pairs r') (held_same-pairs h h' s.0) (s.1, s.2, row_same-pairs r r' s.3)
 
     held_same-pairs : (h h' : Held K (List ℕ)) → SameHeld cmp h h' → SameMap cmp (λ d e. d ≡ e) (held_pairs h) (held_pairs h')
     held_same-pairs nothing nothing s = tt
@@ -64,7 +65,9 @@ module _ {K : Type 0} (cmp : K → K → Ordering) where
       row_same_ranges (high h) (high h') s = held_same_ranges h h' s
       row_same_ranges (high h) (node h' k' d' r') s = absurd s
       row_same_ranges (node h k d r) (high h') s = absurd s
-      row_same_ranges (node h k d r) (node h' k' d' r') s = same-entries-append (held_ranges format bytes_of h) (row_ranges format bytes_of r) (held_ranges format bytes_of h') (row_ranges format bytes_of r') (held_same_ranges h h' s.0) (row_same_ranges r r' s.3)
+      row_same_ranges (node h k d r) (node h' k' d' r') s =
+          same-entries-append (held_ranges format bytes_of h) (row_ranges format bytes_of r) (held_ranges format bytes_of h') (row_ranges format bytes_of r')
+          (held_same_ranges h h' s.0) (row_same_ranges r r' s.3)
 
       held_same_ranges : (h h' : Held K (List ℕ)) → SameHeld cmp h h' → SameEntries cmp (held_ranges format bytes_of h) (held_ranges format bytes_of h')
       held_same_ranges nothing nothing s = tt

@@ -188,7 +188,8 @@ module _ {X : Type 0} where
 module _ {K D : Type 0} (cmp : K → K → Ordering) (k : K) (es : List (Node K D)) where
   -- one comparison more, with the node in the middle
   one_more : (low top n : ℕ) (e : Node K D) → low < top → top ≤ length es → e ≡ get_or es (low + (top - low) / 2) e
-      → ((cmp k e.key ≡ Less) × ComparesByHalves cmp k n (between low (low + (top - low) / 2) es)) ⊎ (((cmp k e.key ≡ Equal) × (n ≡ 0)) ⊎ ((cmp k e.key ≡ Greater) × ComparesByHalves cmp k n (between (low + (top - low) / 2 + 1) top es)))
+      → ((cmp k e.key ≡ Less) × ComparesByHalves cmp k n (between low (low + (top - low) / 2) es))
+      ⊎ (((cmp k e.key ≡ Equal) × (n ≡ 0)) ⊎ ((cmp k e.key ≡ Greater) × ComparesByHalves cmp k n (between (low + (top - low) / 2 + 1) top es)))
       → ComparesByHalves cmp k (suc n) (between low top es)
   one_more low top n e lower within is goes =
       let half = (top - low) / 2 in

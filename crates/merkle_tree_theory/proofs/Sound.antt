@@ -40,11 +40,13 @@ module _ {K H : Type 0} (cmp : K → K → Ordering) (o : IsTotalOrder cmp) (eq 
       is_tree_of (λ k. level_of (digest_of s.hasher k) s.base) (λ k. level_low (digest_of s.hasher k) s.base) cmp (alike s) s.root (map_of s) a.canonical (same_map-own cmp o (map_of s))
 
   -- a copy of the pages of a sound tree, with a hasher that gives the same digests, and the same base and root hash, is sound
-  pub copy_sound : ((x y : K) → eq x y ≡ true → bytes_of x ≡ bytes_of y) → (s : State K H) → IsSound cmp digest_of bytes_of s → (h : H) (t : Tree K (List ℕ)) (r : Option (List ℕ)) → ((k : K) → digest_of h k ≡ digest_of s.hasher k) → r ≡ s.root_hash → IsCopy (Same cmp) (λ d e. d ≡ e) s.root t
+  pub copy_sound : ((x y : K) → eq x y ≡ true → bytes_of x ≡ bytes_of y) → (s : State K H) → IsSound cmp digest_of bytes_of s
+      → (h : H) (t : Tree K (List ℕ)) (r : Option (List ℕ)) → ((k : K) → digest_of h k ≡ digest_of s.hasher k) → r ≡ s.root_hash → IsCopy (Same cmp) (λ d e. d ≡ e) s.root t
       → IsSound cmp digest_of bytes_of (record { hasher = h; base = s.base; format = s.format; root = t; root_hash = r })
   copy_sound bytes_respect s a h t r e q copy = record {
     ascending = same_is_map cmp o (λ d e. d ≡ e) (map_of s) (pairs t) (same-pairs cmp s.root t (copy-same cmp s.root t copy)) a.ascending;
-    canonical = subst (λ (lev : K → ℕ). IsCanonicalRoot lev t) (λ i k. level_of (sym (e k) i) s.base) (same-root cmp (λ k. level_of (digest_of s.hasher k) s.base) (alike s) s.root t (copy-same cmp s.root t copy) a.canonical);
+    canonical = subst (λ (lev : K → ℕ). IsCanonicalRoot lev t) (λ i k. level_of (sym (e k) i) s.base)
+        (same-root cmp (λ k. level_of (digest_of s.hasher k) s.base) (alike s) s.root t (copy-same cmp s.root t copy) a.canonical);
     caches = copy-caches cmp s.format bytes_of (same_bytes cmp eq matches bytes_of bytes_respect) s.root t copy a.caches;
     root_hash_holds = subst (λ n. RootHashHolds n (cache t)) (sym q) (subst (RootHashHolds s.root_hash) (copy-cache (Same cmp) (λ d e. d ≡ e) s.root t copy) a.root_hash_holds);
   }

@@ -36,17 +36,22 @@ module _ {K : Type 0} (bytes_of : K → List ℕ) (n : ℕ) where
 
   key_tells : (xs ys us vs : List ℕ) → length xs < 2 ^ 64 → length ys < 2 ^ 64 → key_bytes V2 xs ++ us ≡ key_bytes V2 ys ++ vs → (xs ≡ ys) × (us ≡ vs)
   key_tells xs ys us vs a b e =
-      let w = join_tells (to_le_bytes w64 (length xs)) (to_le_bytes w64 (length ys)) (xs ++ us) (ys ++ vs) refl (sym (append_assoc (to_le_bytes w64 (length xs)) xs us) ∙ e ∙ append_assoc (to_le_bytes w64 (length ys)) ys vs) in
+      let w = join_tells (to_le_bytes w64 (length xs)) (to_le_bytes w64 (length ys)) (xs ++ us) (ys ++ vs) refl
+      (sym (append_assoc (to_le_bytes w64 (length xs)) xs us) ∙ e ∙ append_assoc (to_le_bytes w64 (length ys)) ys vs) in
       join_tells xs ys us vs (number_tells (length xs) (length ys) a b w.0) w.1
 
   -- the parts of a row with this many nodes
-  pub row_tells : (r r' : Row K (List ℕ)) → length (row_nodes r) ≡ length (row_nodes r') → RowMeasured r → RowMeasured r' → row_stream V2 bytes_of r ≡ row_stream V2 bytes_of r' → SameParts V2 bytes_of r r'
+  pub row_tells : (r r' : Row K (List ℕ)) → length (row_nodes r) ≡ length (row_nodes r') → RowMeasured r → RowMeasured r'
+      → row_stream V2 bytes_of r ≡ row_stream V2 bytes_of r' → SameParts V2 bytes_of r r'
   row_tells (high h) (high h') c m m' e = (held_tells h h' [] [] (append-nil (held_stream V2 bytes_of h) ∙ e ∙ sym (append-nil (held_stream V2 bytes_of h')))).0
   row_tells (high h) (node h' k' d' r') c m m' e = absurd (omega (arith, c))
   row_tells (node h k d r) (high h') c m m' e = absurd (omega (arith, c))
   row_tells (node h k d r) (node h' k' d' r') c m m' e =
-      let apart = λ (x : Held K (List ℕ)) (y : K) (z : List ℕ) (w : List ℕ). ap (λ v. v ++ w) (append_assoc (held_stream V2 bytes_of x) (key_bytes V2 (bytes_of y)) z) ∙ append_assoc (held_stream V2 bytes_of x) (key_bytes V2 (bytes_of y) ++ z) w ∙ ap (λ v. held_stream V2 bytes_of x ++ v) (append_assoc (key_bytes V2 (bytes_of y)) z w) in
-      let a = held_tells h h' (key_bytes V2 (bytes_of k) ++ (d ++ row_stream V2 bytes_of r)) (key_bytes V2 (bytes_of k') ++ (d' ++ row_stream V2 bytes_of r')) (sym (apart h k d (row_stream V2 bytes_of r)) ∙ e ∙ apart h' k' d' (row_stream V2 bytes_of r')) in
+      let apart = λ (x : Held K (List ℕ)) (y : K) (z : List ℕ) (w : List ℕ). ap (λ v. v ++ w)
+      (append_assoc (held_stream V2 bytes_of x) (key_bytes V2 (bytes_of y)) z)
+      ∙ append_assoc (held_stream V2 bytes_of x) (key_bytes V2 (bytes_of y) ++ z) w ∙ ap (λ v. held_stream V2 bytes_of x ++ v) (append_assoc (key_bytes V2 (bytes_of y)) z w) in
+      let a = held_tells h h' (key_bytes V2 (bytes_of k) ++ (d ++ row_stream V2 bytes_of r)) (key_bytes V2 (bytes_of k') ++ (d' ++ row_stream V2 bytes_of r'))
+      (sym (apart h k d (row_stream V2 bytes_of r)) ∙ e ∙ apart h' k' d' (row_stream V2 bytes_of r')) in
       let b = key_tells (bytes_of k) (bytes_of k') (d ++ row_stream V2 bytes_of r) (d' ++ row_stream V2 bytes_of r') m.0 m'.0 a.1 in
       let g = join_tells d d' (row_stream V2 bytes_of r) (row_stream V2 bytes_of r') (m.1 ∙ sym m'.1) b.1 in
       let same : length (row_nodes r) ≡ length (row_nodes r') = omega (arith, c) in

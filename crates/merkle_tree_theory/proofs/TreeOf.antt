@@ -20,7 +20,8 @@ not_at : (k n : ℕ) → k < suc n → (k == n) ≡ false → k < n
 not_at k n h e = let ne : k ≢ n = eqb-false k n e in omega arith
 
 module _ {K D : Type 0} (lev : K → ℕ) where
-  pub row_of-pairs : (gap : List (K × D) → Held K D) (n : ℕ) → ((g : List (K × D)) → Under lev n g → held_pairs (gap g) ≡ g) → (run ps : List (K × D)) → Under lev n run → Under lev (suc n) ps → row_pairs (row_of lev gap n run ps) ≡ run ++ ps
+  pub row_of-pairs : (gap : List (K × D) → Held K D) (n : ℕ) → ((g : List (K × D)) → Under lev n g → held_pairs (gap g) ≡ g) → (run ps : List (K × D))
+      → Under lev n run → Under lev (suc n) ps → row_pairs (row_of lev gap n run ps) ≡ run ++ ps
   row_of-pairs gap n f run [] u v = f run u ∙ sym (append-nil run)
   row_of-pairs gap n f run (p ∷ ps) u v =
       by (lev p.0 == n) refl (row_of-pairs gap n f [] ps tt v.1) (λ h. row_of-pairs gap n f (run ++ p ∷ []) ps (Under-append lev n run (p ∷ []) u (h, tt)) v.1)
@@ -30,7 +31,8 @@ module _ {K D : Type 0} (lev : K → ℕ) where
       by true e a b = ap (λ xs. xs ++ p ∷ row_pairs (row_of lev gap n [] ps)) (f run u) ∙ ap (λ xs. run ++ p ∷ xs) a
       by false e a b = b (not_at (lev p.0) n v.0 e) ∙ append_assoc run (p ∷ []) ps
 
-  pub row_of-canonical : (gap : List (K × D) → Held K D) (n : ℕ) → ((g : List (K × D)) → Under lev n g → IsGap lev n (gap g)) → (run ps : List (K × D)) → Under lev n run → Under lev (suc n) ps → IsRow lev n (row_of lev gap n run ps)
+  pub row_of-canonical : (gap : List (K × D) → Held K D) (n : ℕ) → ((g : List (K × D)) → Under lev n g → IsGap lev n (gap g)) → (run ps : List (K × D))
+      → Under lev n run → Under lev (suc n) ps → IsRow lev n (row_of lev gap n run ps)
   row_of-canonical gap n f run [] u v = f run u
   row_of-canonical gap n f run (p ∷ ps) u v =
       by (lev p.0 == n) refl (row_of-canonical gap n f [] ps tt v.1) (λ h. row_of-canonical gap n f (run ++ p ∷ []) ps (Under-append lev n run (p ∷ []) u (h, tt)) v.1)
@@ -70,7 +72,8 @@ module _ {K D : Type 0} (lev : K → ℕ) where
   pub gap_of-canonical : (n m : ℕ) → n ≤ m → (ps : List (K × D)) → Under lev n ps → IsGap lev m (gap_of lev n ps)
   gap_of-canonical zero m h ps u = tt
   gap_of-canonical (suc n) m h ps u =
-      by (any_at lev n ps) refl (row_of-canonical (gap_of lev n) n (λ g v. let le : n ≤ n = omega arith in gap_of-canonical n n le g v) [] ps tt u) (λ v. let le : n ≤ m = omega arith in gap_of-canonical n m le ps v)
+      by (any_at lev n ps) refl (row_of-canonical (gap_of lev n) n (λ g v. let le : n ≤ n = omega arith in gap_of-canonical n n le g v) [] ps tt u)
+      (λ v. let le : n ≤ m = omega arith in gap_of-canonical n m le ps v)
     where
       by : (c : Bool) → any_at lev n ps ≡ c → IsRow lev n (row_of lev (gap_of lev n) n [] ps) → (Under lev n ps → IsGap lev m (gap_of lev n ps))
           → IsGap lev m (if c then (below (page n None (row_of lev (gap_of lev n) n [] ps))) else (gap_of lev n ps))
@@ -109,6 +112,7 @@ module _ {K : Type 0} (lev : K → ℕ) (low : (k : K) → lev k < 256) (cmp : K
 
 module _ {K : Type 0} (cmp : K → K → Ordering) (o : IsTotalOrder cmp) where
   -- the trees of two equal maps have equal maps
-  pub same_pairs : (digest_of : K → List ℕ) (base : ℕ) (a b : List (K × List ℕ)) (t u : Tree K (List ℕ)) → SameMap cmp (λ d e. d ≡ e) a b → IsTreeOf cmp digest_of base t a → IsTreeOf cmp digest_of base u b
+  pub same_pairs : (digest_of : K → List ℕ) (base : ℕ) (a b : List (K × List ℕ)) (t u : Tree K (List ℕ)) → SameMap cmp (λ d e. d ≡ e) a b
+      → IsTreeOf cmp digest_of base t a → IsTreeOf cmp digest_of base u b
       → SameMap cmp (λ d e. d ≡ e) (pairs t) (pairs u)
   same_pairs digest_of base a b t u h f g = same_across cmp o a b (pairs t) (pairs u) (same_map-back cmp o (pairs t) a f.1) (same_map-back cmp o (pairs u) b g.1) h

@@ -63,7 +63,8 @@ module _ {K D : Type 0} (cmp : K → K → Ordering) (o : IsTotalOrder cmp) (lev
   put-dropped : (r : Row K D) → IsRow lev n r → IsMap cmp (row_pairs r) → RowKeyUncached cmp k (row_put cmp k d r)
   put-dropped (high h) p a = sides h a (gap_ne h p)
   put-dropped (node h x e r) p a =
-      by (cmp k x) (none-before cmp o k (held_pairs h) x e (row_pairs r) a) (none-after cmp o k (held_pairs h) x e (row_pairs r) a) (put-dropped r p.2 (map-rest cmp (held_pairs h) ((x, e) ∷ row_pairs r) a).1)
+      by (cmp k x) (none-before cmp o k (held_pairs h) x e (row_pairs r) a) (none-after cmp o k (held_pairs h) x e (row_pairs r) a)
+      (put-dropped r p.2 (map-rest cmp (held_pairs h) ((x, e) ∷ row_pairs r) a).1)
     where
       by : (q : Ordering) → (q ≢ Less → NoEqual cmp k (held_pairs h)) → (q ≢ Greater → NoEqual cmp k (row_pairs r)) → RowKeyUncached cmp k (row_put cmp k d r)
           → RowKeyUncached cmp k (match_ordering q (node (held_lower cmp k h) k d (node (held_upper cmp k h) x e r)) (node h x d r) (node h x e (row_put cmp k d r)))
@@ -78,7 +79,9 @@ module _ {K D : Type 0} (cmp : K → K → Ordering) (o : IsTotalOrder cmp) (lev
     set-dropped (page m c (high h)) w p a = absurd w
     set-dropped (page m c (node h x e r)) w p a =
         by (nat_cmp n m) (ranks n m) (sink-dropped m (node h x e r) p a) (λ q. put-dropped (node h x e r) (subst (λ j. IsRow lev j (node h x e r)) (sym q) p) a)
-        (λ q. tree_sides (page m c (node h x e r)) a (no_equal-under cmp lev respects k n at (row_pairs (node h x e r)) (Under-more lev (m + 1) n (omega arith) (row_pairs (node h x e r)) (Under-row lev m (node h x e r) p))))
+        (λ q. tree_sides (page m c (node h x e r)) a
+        (no_equal-under cmp lev respects k n at (row_pairs (node h x e r))
+        (Under-more lev (m + 1) n (omega arith) (row_pairs (node h x e r)) (Under-row lev m (node h x e r) p))))
       where
         by : (q : Ordering) → MatchOrdering q (n < m) (n ≡ m) (m < n)
             → RowKeyUncached cmp k (row_sink cmp n k d (node h x e r)) → (n ≡ m → RowKeyUncached cmp k (row_put cmp k d (node h x e r)))
@@ -91,10 +94,12 @@ module _ {K D : Type 0} (cmp : K → K → Ordering) (o : IsTotalOrder cmp) (lev
     sink-dropped : (m : ℕ) (r : Row K D) → IsRow lev m r → IsMap cmp (row_pairs r) → RowKeyUncached cmp k (row_sink cmp n k d r)
     sink-dropped m (high h) p a = gap-dropped m h p a
     sink-dropped m (node h x e r) p a =
-        by (cmp k x) (none-before cmp o k (held_pairs h) x e (row_pairs r) a) (none-after cmp o k (held_pairs h) x e (row_pairs r) a) (sink-dropped m r p.2 (map-rest cmp (held_pairs h) ((x, e) ∷ row_pairs r) a).1)
+        by (cmp k x) (none-before cmp o k (held_pairs h) x e (row_pairs r) a) (none-after cmp o k (held_pairs h) x e (row_pairs r) a)
+        (sink-dropped m r p.2 (map-rest cmp (held_pairs h) ((x, e) ∷ row_pairs r) a).1)
         (gap-dropped m h p.0 (map-first cmp (held_pairs h) ((x, e) ∷ row_pairs r) a))
       where
-        by : (q : Ordering) → (q ≢ Less → NoEqual cmp k (held_pairs h)) → (q ≢ Greater → NoEqual cmp k (row_pairs r)) → RowKeyUncached cmp k (row_sink cmp n k d r) → HeldKeyUncached cmp k (held_set cmp n k d h)
+        by : (q : Ordering) → (q ≢ Less → NoEqual cmp k (held_pairs h)) → (q ≢ Greater → NoEqual cmp k (row_pairs r))
+            → RowKeyUncached cmp k (row_sink cmp n k d r) → HeldKeyUncached cmp k (held_set cmp n k d h)
             → RowKeyUncached cmp k (match_ordering q (node (held_set cmp n k d h) x e r) (node h x d r) (node h x e (row_sink cmp n k d r)))
         by Less b c f g = (g, none-row cmp k r (c (λ q. absurd (cc))))
         by Equal b c f g = (none-held cmp k h (b (λ q. absurd (cc))), none-row cmp k r (c (λ q. absurd (cc))))
@@ -129,9 +134,12 @@ module _ {K D : Type 0} (cmp : K → K → Ordering) (o : IsTotalOrder cmp) (lev
     set-finds (page m c (high h)) w p a e = absurd w
     set-finds (page m c (node h x v r)) w p a e =
         by (nat_cmp n m) (ranks n m) (sink-finds m (node h x v r) p a e) (λ q. put-finds (node h x v r) (subst (λ j. IsRow lev j (node h x v r)) (sym q) p) a e)
-        (λ q. sym (has_key-none cmp k (row_pairs (node h x v r)) (no_equal-under cmp lev respects k n at (row_pairs (node h x v r)) (Under-more lev (m + 1) n (omega arith) (row_pairs (node h x v r)) (Under-row lev m (node h x v r) p)))) ∙ e)
+        (λ q. sym (has_key-none cmp k (row_pairs (node h x v r))
+        (no_equal-under cmp lev respects k n at (row_pairs (node h x v r))
+        (Under-more lev (m + 1) n (omega arith) (row_pairs (node h x v r)) (Under-row lev m (node h x v r) p)))) ∙ e)
       where
-        by : (q : Ordering) → MatchOrdering q (n < m) (n ≡ m) (m < n) → row_finds cmp n k d true (node h x v r) ≡ true → (n ≡ m → row_finds cmp n k d false (node h x v r) ≡ true) → (m < n → false ≡ true)
+        by : (q : Ordering) → MatchOrdering q (n < m) (n ≡ m) (m < n) → row_finds cmp n k d true (node h x v r) ≡ true
+            → (n ≡ m → row_finds cmp n k d false (node h x v r) ≡ true) → (m < n → false ≡ true)
             → match_ordering q (row_finds cmp n k d true (node h x v r)) (row_finds cmp n k d false (node h x v r)) false ≡ true
         by Less q f g i = f
         by Equal q f g i = g q

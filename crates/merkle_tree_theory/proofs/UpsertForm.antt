@@ -165,12 +165,14 @@ module _ {K : Type 0} (format : PageFormat) (b : K → List ℕ) where
   rows_hold l (Some d) r p = p.2
 
   -- a part s of the row r of a page with a true digest, where o is the other part
-  kept-hold : (l : ℕ) (c : Option (List ℕ)) (o r s : Row K (List ℕ)) → CachesHold format b (page l c r) → RowCachesHold format b s → (o ≡ high nothing → s ≡ r) → CachesHold format b (page l (row_digest_beside o c) s)
+  kept-hold : (l : ℕ) (c : Option (List ℕ)) (o r s : Row K (List ℕ)) → CachesHold format b (page l c r) → RowCachesHold format b s → (o ≡ high nothing → s ≡ r)
+      → CachesHold format b (page l (row_digest_beside o c) s)
   kept-hold l c (high nothing) r s p q w = subst (λ t. CachesHold format b (page l c t)) (sym (w refl)) p
   kept-hold l c (high (below t)) r s p q w = q
   kept-hold l c (node h k d o) r s p q w = q
 
-  as_held-hold : (l : ℕ) (c : Option (List ℕ)) (o r s : Row K (List ℕ)) → CachesHold format b (page l c r) → RowCachesHold format b s → (o ≡ high nothing → s ≡ r) → HeldCachesHold format b (as_held l (row_digest_beside o c) s)
+  as_held-hold : (l : ℕ) (c : Option (List ℕ)) (o r s : Row K (List ℕ)) → CachesHold format b (page l c r) → RowCachesHold format b s
+      → (o ≡ high nothing → s ≡ r) → HeldCachesHold format b (as_held l (row_digest_beside o c) s)
   as_held-hold l c o r (high h) p q w = q
   as_held-hold l c o r (node h k d s) p q w = kept-hold l c o r (node h k d s) p q w
 
@@ -180,8 +182,10 @@ module _ {K : Type 0} (format : PageFormat) (b : K → List ℕ) where
       split-hold (high h) p = held_split-hold h p
       split-hold (node h k d r) p = by (is_gt (cmp at k)) (split-hold r p.1) (held_split-hold h p.0)
         where
-          by : (c : Bool) → RowCachesHold format b (lower cmp at r) × RowCachesHold format b (upper cmp at r) → HeldCachesHold format b (held_lower cmp at h) × HeldCachesHold format b (held_upper cmp at h)
-              → RowCachesHold format b (if c then (node h k d (lower cmp at r)) else (high (held_lower cmp at h))) × RowCachesHold format b (if c then (upper cmp at r) else (node (held_upper cmp at h) k d r))
+          by : (c : Bool) → RowCachesHold format b (lower cmp at r) × RowCachesHold format b (upper cmp at r) → HeldCachesHold format b (held_lower cmp at h)
+              × HeldCachesHold format b (held_upper cmp at h)
+              → RowCachesHold format b (if c then (node h k d (lower cmp at r)) else (high (held_lower cmp at h)))
+              × RowCachesHold format b (if c then (upper cmp at r) else (node (held_upper cmp at h) k d r))
           by true s u = ((p.0, s.0), s.1)
           by false s u = (u.0, (u.1, p.1))
 
@@ -273,8 +277,10 @@ module _ {K D : Type 0} (cmp : K → K → Ordering) (lev : K → ℕ) (at : K) 
     split-few l (high h) p = held_split-few l h p
     split-few l (node h k d r) p = by (is_gt (cmp at k)) (split-few l r p.2) (held_split-few l h p.0)
       where
-        by : (b : Bool) → row_uncached_pages (lower cmp at r) + row_uncached_pages (upper cmp at r) ≤ row_uncached_pages r + (l + l) → held_uncached_pages (held_lower cmp at h) + held_uncached_pages (held_upper cmp at h) ≤ held_uncached_pages h + (l + l)
-            → row_uncached_pages (if b then (node h k d (lower cmp at r)) else (high (held_lower cmp at h))) + row_uncached_pages (if b then (upper cmp at r) else (node (held_upper cmp at h) k d r)) ≤ held_uncached_pages h + row_uncached_pages r + (l + l)
+        by : (b : Bool) → row_uncached_pages (lower cmp at r) + row_uncached_pages (upper cmp at r) ≤ row_uncached_pages r + (l + l)
+            → held_uncached_pages (held_lower cmp at h) + held_uncached_pages (held_upper cmp at h) ≤ held_uncached_pages h + (l + l)
+            → row_uncached_pages (if b then (node h k d (lower cmp at r)) else (high (held_lower cmp at h))) + row_uncached_pages
+            (if b then (upper cmp at r) else (node (held_upper cmp at h) k d r)) ≤ held_uncached_pages h + row_uncached_pages r + (l + l)
         by true s u = omega arith
         by false s u = omega arith
 
@@ -282,15 +288,23 @@ module _ {K D : Type 0} (cmp : K → K → Ordering) (lev : K → ℕ) (at : K) 
     held_split-few l nothing p = omega arith
     held_split-few l (below (page m c (high h))) p = absurd p.1
     held_split-few l (below (page m c (node h k d r))) p =
-        omega (arith, p.0, split-few m (node h k d r) p.2, as_held-one m (row_digest_beside (upper cmp at (node h k d r)) c) (lower cmp at (node h k d r)), as_held-one m (row_digest_beside (lower cmp at (node h k d r)) c) (upper cmp at (node h k d r)))
+        omega (
+          arith,
+          p.0,
+          split-few m (node h k d r) p.2,
+          as_held-one m (row_digest_beside (upper cmp at (node h k d r)) c) (lower cmp at (node h k d r)),
+          as_held-one m (row_digest_beside (lower cmp at (node h k d r)) c) (upper cmp at (node h k d r)),
+        )
 
 module _ {K D : Type 0} (cmp : K → K → Ordering) (lev : K → ℕ) (n : ℕ) (k : K) (d : D) where
   put-few : (r : Row K D) → IsRow lev n r → row_uncached_pages (row_put cmp k d r) ≤ row_uncached_pages r + (n + n)
   put-few (high h) p = held_split-few cmp lev k n h p
   put-few (node h x e r) p = by (cmp k x) (put-few r p.2) (held_split-few cmp lev k n h p.0)
     where
-      by : (q : Ordering) → row_uncached_pages (row_put cmp k d r) ≤ row_uncached_pages r + (n + n) → held_uncached_pages (held_lower cmp k h) + held_uncached_pages (held_upper cmp k h) ≤ held_uncached_pages h + (n + n)
-          → row_uncached_pages (match_ordering q (node (held_lower cmp k h) k d (node (held_upper cmp k h) x e r)) (node h x d r) (node h x e (row_put cmp k d r))) ≤ held_uncached_pages h + row_uncached_pages r + (n + n)
+      by : (q : Ordering) → row_uncached_pages (row_put cmp k d r) ≤ row_uncached_pages r + (n + n)
+          → held_uncached_pages (held_lower cmp k h) + held_uncached_pages (held_upper cmp k h) ≤ held_uncached_pages h + (n + n)
+          → row_uncached_pages (match_ordering q (node (held_lower cmp k h) k d (node (held_upper cmp k h) x e r)) (node h x d r)
+          (node h x e (row_put cmp k d r))) ≤ held_uncached_pages h + row_uncached_pages r + (n + n)
       by Less f s = omega arith
       by Equal f s = omega arith
       by Greater f s = omega arith
@@ -303,13 +317,20 @@ module _ {K D : Type 0} (cmp : K → K → Ordering) (lev : K → ℕ) (n : ℕ)
       by (nat_cmp n m) (ranks n m) f (λ q. put-few (node h x e r) (subst (λ j. IsRow lev j (node h x e r)) (sym q) p)) (split-few cmp lev k m (node h x e r) p)
     where
       by : (q : Ordering) → MatchOrdering q (n < m) (n ≡ m) (m < n)
-          → (n < m → row_uncached_pages (row_sink cmp n k d (node h x e r)) ≤ row_uncached_pages (node h x e r) + (m + n)) → (n ≡ m → row_uncached_pages (row_put cmp k d (node h x e r)) ≤ row_uncached_pages (node h x e r) + (n + n))
+          → (n < m → row_uncached_pages (row_sink cmp n k d (node h x e r)) ≤ row_uncached_pages (node h x e r) + (m + n))
+          → (n ≡ m → row_uncached_pages (row_put cmp k d (node h x e r)) ≤ row_uncached_pages (node h x e r) + (n + n))
           → row_uncached_pages (lower cmp k (node h x e r)) + row_uncached_pages (upper cmp k (node h x e r)) ≤ row_uncached_pages (node h x e r) + (m + m)
           → uncached_pages (match_ordering q (page m None (row_sink cmp n k d (node h x e r))) (page m None (row_put cmp k d (node h x e r))) (lifted cmp n k d (page m c (node h x e r))))
-          ≤ row_uncached_pages (node h x e r) + (level (match_ordering q (page m None (row_sink cmp n k d (node h x e r))) (page m None (row_put cmp k d (node h x e r))) (lifted cmp n k d (page m c (node h x e r)))) + n + 1)
+          ≤ row_uncached_pages (node h x e r) +
+          (level (match_ordering q (page m None (row_sink cmp n k d (node h x e r))) (page m None (row_put cmp k d (node h x e r)))
+          (lifted cmp n k d (page m c (node h x e r)))) + n + 1)
       by Less q f g s = omega (arith, f q)
       by Equal q f g s = omega (arith, g q)
-      by Greater q f g s = omega (arith, as_held-one m (row_digest_beside (upper cmp k (node h x e r)) c) (lower cmp k (node h x e r)), as_held-one m (row_digest_beside (lower cmp k (node h x e r)) c) (upper cmp k (node h x e r)))
+      by Greater q f g s = omega (
+        arith,
+        as_held-one m (row_digest_beside (upper cmp k (node h x e r)) c) (lower cmp k (node h x e r)),
+        as_held-one m (row_digest_beside (lower cmp k (node h x e r)) c) (upper cmp k (node h x e r)),
+      )
 
   -- the level of that page
   tree-level : (l m : ℕ) (c : Option (List ℕ)) (h : Held K D) (x : K) (e : D) (r : Row K D) → n < m → l < m → level (tree_set cmp n k d (page l c (node h x e r))) < m

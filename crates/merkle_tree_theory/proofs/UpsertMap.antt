@@ -28,7 +28,8 @@ module _ {K D : Type 0} (cmp : K → K → Ordering) (at : K) where
     split-pairs (node h k d r) = by (is_gt (cmp at k)) (split-pairs r) (held_split-pairs h)
       where
         by : (b : Bool) → row_pairs (lower cmp at r) ++ row_pairs (upper cmp at r) ≡ row_pairs r → held_pairs (held_lower cmp at h) ++ held_pairs (held_upper cmp at h) ≡ held_pairs h
-            → row_pairs (if b then (node h k d (lower cmp at r)) else (high (held_lower cmp at h))) ++ row_pairs (if b then (upper cmp at r) else (node (held_upper cmp at h) k d r)) ≡ held_pairs h ++ (k, d) ∷ row_pairs r
+            → row_pairs (if b then (node h k d (lower cmp at r)) else (high (held_lower cmp at h))) ++ row_pairs
+            (if b then (upper cmp at r) else (node (held_upper cmp at h) k d r)) ≡ held_pairs h ++ (k, d) ∷ row_pairs r
         by true p q = append_assoc (held_pairs h) ((k, d) ∷ row_pairs (lower cmp at r)) (row_pairs (upper cmp at r)) ∙ ap (λ xs. held_pairs h ++ (k, d) ∷ xs) p
         by false p q = sym (append_assoc (held_pairs (held_lower cmp at h)) (held_pairs (held_upper cmp at h)) ((k, d) ∷ row_pairs r)) ∙ ap (λ xs. xs ++ (k, d) ∷ row_pairs r) q
 
@@ -58,15 +59,20 @@ module _ {K D : Type 0} (cmp : K → K → Ordering) (o : IsTotalOrder cmp) (at 
 
         by : (b : Bool) → is_gt (cmp at k) ≡ b → AllBelow cmp at (row_pairs (lower cmp at r)) × AllAbove cmp at (row_pairs (upper cmp at r))
             → AllBelow cmp at (held_pairs (held_lower cmp at h)) × AllAbove cmp at (held_pairs (held_upper cmp at h))
-            → AllBelow cmp at (row_pairs (if b then (node h k d (lower cmp at r)) else (high (held_lower cmp at h)))) × AllAbove cmp at (row_pairs (if b then (upper cmp at r) else (node (held_upper cmp at h) k d r)))
+            → AllBelow cmp at (row_pairs (if b then (node h k d (lower cmp at r)) else (high (held_lower cmp at h))))
+            × AllAbove cmp at (row_pairs (if b then (upper cmp at r) else (node (held_upper cmp at h) k d r)))
         by true e s u =
-            let g = turned cmp o at k ∙ e in
-            (below-append cmp at (held_pairs h) ((k, d) ∷ row_pairs (lower cmp at r)) (below-more cmp o at k (held_pairs h) (low_is_up cmp o k at g) (map-before cmp (held_pairs h) (k, d) (row_pairs r) a)) (g, s.0), s.1)
+            let g = turned cmp o at k ∙ e in (
+              below-append cmp at (held_pairs h) ((k, d) ∷ row_pairs (lower cmp at r))
+                  (below-more cmp o at k (held_pairs h) (low_is_up cmp o k at g) (map-before cmp (held_pairs h) (k, d) (row_pairs r) a)) (g, s.0),
+              s.1,
+            )
         by false e s u =
             let l = not_above (cmp at k) (no_equal-rest cmp at (held_pairs h) ((k, d) ∷ row_pairs r) ne).0 e in
             (u.0, above-append cmp at (held_pairs (held_upper cmp at h)) ((k, d) ∷ row_pairs r) u.1 (l, above-more cmp o at k (row_pairs r) (low_is_up cmp o at k l) rest.0))
 
-    pub held_split-sides : (h : Held K D) → IsMap cmp (held_pairs h) → NoEqual cmp at (held_pairs h) → AllBelow cmp at (held_pairs (held_lower cmp at h)) × AllAbove cmp at (held_pairs (held_upper cmp at h))
+    pub held_split-sides : (h : Held K D) → IsMap cmp (held_pairs h) → NoEqual cmp at (held_pairs h) → AllBelow cmp at (held_pairs (held_lower cmp at h))
+        × AllAbove cmp at (held_pairs (held_upper cmp at h))
     held_split-sides nothing a ne = (tt, tt)
     held_split-sides (below t) a ne = tree_split-sides t a ne
 
@@ -99,10 +105,12 @@ module _ {K D : Type 0} (cmp : K → K → Ordering) (o : IsTotalOrder cmp) (lev
       behind = map-before cmp (held_pairs h) (x, e) (row_pairs r) a
 
       by : (q : Ordering) → cmp k x ≡ q → row_pairs (row_put cmp k d r) ≡ set cmp (row_pairs r) k d
-          → row_pairs (match_ordering q (node (held_lower cmp k h) k d (node (held_upper cmp k h) x e r)) (node h x d r) (node h x e (row_put cmp k d r))) ≡ set cmp (held_pairs h ++ (x, e) ∷ row_pairs r) k d
+          → row_pairs (match_ordering q (node (held_lower cmp k h) k d (node (held_upper cmp k h) x e r)) (node h x d r)
+          (node h x e (row_put cmp k d r))) ≡ set cmp (held_pairs h ++ (x, e) ∷ row_pairs r) k d
       by Less q f =
           let s = held_split-sides cmp o k h (map-first cmp (held_pairs h) ((x, e) ∷ row_pairs r) a) (no_equal-under cmp lev respects k n at (held_pairs h) (Under-gap lev n h p.0)) in
-          joined (held_pairs (held_lower cmp k h)) (held_pairs (held_upper cmp k h)) ((x, e) ∷ row_pairs r) (held_pairs h) (held_split-pairs cmp k h) s.0 s.1 (less-below cmp k x q, above-more cmp o k x (row_pairs r) (less-upto cmp k x q) rest.0)
+          joined (held_pairs (held_lower cmp k h)) (held_pairs (held_upper cmp k h)) ((x, e) ∷ row_pairs r) (held_pairs h) (held_split-pairs cmp k h) s.0 s.1
+          (less-below cmp k x q, above-more cmp o k x (row_pairs r) (less-upto cmp k x q) rest.0)
       by Equal q f =
           sym (set-pass cmp o k d (held_pairs h) ((x, e) ∷ row_pairs r) (below-more cmp o k x (held_pairs h) (same_down cmp o k x q) behind)
           ∙ ap (λ w. held_pairs h ++ match_ordering w ((k, d) ∷ (x, e) ∷ row_pairs r) ((x, d) ∷ row_pairs r) ((x, e) ∷ set cmp (row_pairs r) k d)) q)
@@ -128,7 +136,8 @@ module _ {K D : Type 0} (cmp : K → K → Ordering) (o : IsTotalOrder cmp) (lev
             → row_pairs (row_sink cmp n k d (node h x e r)) ≡ set cmp (row_pairs (node h x e r)) k d
             → (n ≡ m → row_pairs (row_put cmp k d (node h x e r)) ≡ set cmp (row_pairs (node h x e r)) k d)
             → (m < n → pairs (lifted cmp n k d (page m c (node h x e r))) ≡ set cmp (row_pairs (node h x e r)) k d)
-            → pairs (match_ordering q (page m None (row_sink cmp n k d (node h x e r))) (page m None (row_put cmp k d (node h x e r))) (lifted cmp n k d (page m c (node h x e r)))) ≡ set cmp (row_pairs (node h x e r)) k d
+            → pairs (match_ordering q (page m None (row_sink cmp n k d (node h x e r))) (page m None (row_put cmp k d (node h x e r)))
+            (lifted cmp n k d (page m c (node h x e r)))) ≡ set cmp (row_pairs (node h x e r)) k d
         by Less q f g i = f
         by Equal q f g i = g q
         by Greater q f g i = i q
@@ -145,7 +154,8 @@ module _ {K D : Type 0} (cmp : K → K → Ordering) (o : IsTotalOrder cmp) (lev
 
         by : (q : Ordering) → cmp k x ≡ q → row_pairs (row_sink cmp n k d r) ≡ set cmp (row_pairs r) k d → held_pairs (held_set cmp n k d h) ≡ set cmp (held_pairs h) k d
             → row_pairs (match_ordering q (node (held_set cmp n k d h) x e r) (node h x d r) (node h x e (row_sink cmp n k d r))) ≡ set cmp (held_pairs h ++ (x, e) ∷ row_pairs r) k d
-        by Less q f g = ap (λ ws. ws ++ (x, e) ∷ row_pairs r) g ∙ sym (set-front cmp k d (held_pairs h) ((x, e) ∷ row_pairs r) (less-below cmp k x q, above-more cmp o k x (row_pairs r) (less-upto cmp k x q) rest.0))
+        by Less q f g = ap (λ ws. ws ++ (x, e) ∷ row_pairs r) g
+            ∙ sym (set-front cmp k d (held_pairs h) ((x, e) ∷ row_pairs r) (less-below cmp k x q, above-more cmp o k x (row_pairs r) (less-upto cmp k x q) rest.0))
         by Equal q f g =
             sym (set-pass cmp o k d (held_pairs h) ((x, e) ∷ row_pairs r) (below-more cmp o k x (held_pairs h) (same_down cmp o k x q) behind)
             ∙ ap (λ w. held_pairs h ++ match_ordering w ((k, d) ∷ (x, e) ∷ row_pairs r) ((x, d) ∷ row_pairs r) ((x, e) ∷ set cmp (row_pairs r) k d)) q)

@@ -19,7 +19,8 @@ use Rattle.merkle_tree_theory.proofs.UpsertDrops.{set-dropped_root, set-finds_ro
 use Rattle.merkle_tree_theory.specs.declared.page_format.PageFormat.{PageFormat}
 
 -- a tree with a cached root hash lacks no digest
-pub none_of_hashed : {K : Type 0} (format : PageFormat) (b : K → List ℕ) (t : Tree K (List ℕ)) (o : Option (List ℕ)) → RootHashHolds o (cache t) → CachesHold format b t → o ≢ None → uncached_pages t ≡ 0
+pub none_of_hashed : {K : Type 0} (format : PageFormat) (b : K → List ℕ) (t : Tree K (List ℕ)) (o : Option (List ℕ)) → RootHashHolds o (cache t)
+    → CachesHold format b t → o ≢ None → uncached_pages t ≡ 0
 none_of_hashed format b t None r p ne = absurd (ne refl)
 none_of_hashed format b t (Some d) r p ne = none_missing format b t d r p
 

@@ -46,13 +46,13 @@ module _ {K X : Type 0} (cmp : K → K → Ordering) where
 
 module _ {K D : Type 0} (lev : K → ℕ) where
   -- a canonical page with a node, without digests and a high page
-  abbrev pub IsOpen : Tree K D → Type 0
-  IsOpen t = HasNode t × IsCanonical lev t × IsBare t × (high_of (row_of_page t) ≡ nothing)
+  abbrev pub IsOpenPage : Tree K D → Type 0
+  IsOpenPage t = HasNode t × IsCanonical lev t × IsBare t × (high_of (row_of_page t) ≡ nothing)
 
   -- open pages whose levels fall strictly, from below b on
   abbrev pub IsEdge : ℕ → List (Tree K D) → Type 0
   IsEdge b [] = ⊤
-  IsEdge b (t ∷ ts) = (level t < b) × IsOpen t × IsEdge (level t) ts
+  IsEdge b (t ∷ ts) = (level t < b) × IsOpenPage t × IsEdge (level t) ts
 
   -- a canonical page of a level below b, where there is one, without digests
   abbrev pub IsClosed : ℕ → Held K D → Type 0

@@ -17,8 +17,8 @@ use Rattle.merkle_wire.specs.Gaps.{owned_gap}
 use Rattle.merkle_wire.specs.Next.{IsNext, AsksOrGoesOn, OnlyAskedFor}
 use Rattle.merkle_wire.specs.Outlines.{Outline, rows_told, digests_told, page_told}
 use Rattle.merkle_wire.specs.Replies.{Part}
-use Rattle.merkle_wire.specs.Taking.{IsRootTaken, IsTaken, AreTaken, new_rows, value_row}
-use Rattle.merkle_wire.specs.Underway.{Underway, HasTaken}
+use Rattle.merkle_wire.specs.Taking.{IsRootTaken, IsPageTaken, AreTaken, new_rows, value_row}
+use Rattle.merkle_wire.specs.Underway.{Underway, HasTakenReply}
 use Rattle.merkle_wire.specs.declared.catching_up.Next.{Next}
 use Rattle.merkle_wire.specs.declared.catching_up.Next.TheVariants.{Ask, Came}
 use Rattle.merkle_wire.specs.declared.gaps.OwnedGap.{OwnedGap}
@@ -71,7 +71,7 @@ module _ {K V H : Type 0} (laws : Laws K V H) (o : IsTotalOrder laws.cmp) (local
   adds_none : (P : K → Type 0) (before after : Found K V) → after.rows ≡ before.rows → AddsOnly P before after
   adds_none P before after e = ([], tt, e ∙ sym (append-nil before.rows))
 
-  taken_in_gap : (n : ℕ) (g : Gap K) (told : Outline K V) (before after : Found K V) → LiesIn laws.cmp n g told → IsTaken laws local g told before after
+  taken_in_gap : (n : ℕ) (g : Gap K) (told : Outline K V) (before after : Found K V) → LiesIn laws.cmp n g told → IsPageTaken laws local g told before after
       → AddsOnly (λ k. IsInGap laws.cmp k g) before after
   taken_in_gap n g (rows_told rows) before after lies taken = (new_rows laws local rows, new_in_gap g rows lies, ap (λ f. f.rows) taken)
   taken_in_gap n g (digests_told nodes) before after lies taken = adds_none (λ k. IsInGap laws.cmp k g) before after (ap (λ f. f.rows) taken)
@@ -113,7 +113,7 @@ module _ {K V H : Type 0} (laws : Laws K V H) (o : IsTotalOrder laws.cmp) (local
 
   -- a reply adds rows that were asked for alone
   pub taken_asked : (n : ℕ) (encoding : K → List ℕ) (values : V → List ℕ) (asked : Question K) (reply : List ℕ) (before after : Found K V) (again : Option (Question K))
-      → HasTaken laws n encoding values local asked reply before after again → AddsOnly (IsAskedFor laws.cmp asked) before after
+      → HasTakenReply laws n encoding values local asked reply before after again → AddsOnly (IsAskedFor laws.cmp asked) before after
   taken_asked n encoding values (Root settings) reply before after again t = adds_none (λ k. ⊥) before after (root_adds_none t.1 before after t.3)
   taken_asked n encoding values (Outlines most gaps) reply before after again t =
       in_more_gaps gaps.items (map (λ t. t.0) t.1.0) t.0 before after t.1.3 (taken_in_gaps n t.1.0 before after t.1.4 t.1.5)

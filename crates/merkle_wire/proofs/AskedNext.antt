@@ -12,7 +12,7 @@ use Rattle.merkle_wire.specs.Asking.{AsksForSome, IsTakenFrom, all_whole}
 use Rattle.merkle_wire.specs.Found.{Found}
 use Rattle.merkle_wire.specs.Gaps.{owned_gap}
 use Rattle.merkle_wire.specs.Next.{AsksOrGoesOn, GoesOn, rounds_with}
-use Rattle.merkle_wire.specs.Steady.{AsksForPages, IsFilled, IsSteady, SteadyNext, times_asked, times_at, times_found, times_in, times_over, total}
+use Rattle.merkle_wire.specs.Steady.{AsksForPages, IsFilled, IsSteadyCatchUp, SteadyNext, times_asked, times_at, times_found, times_in, times_over, total}
 use Rattle.merkle_wire.specs.Underway.{AsksAgain}
 use Rattle.merkle_wire.specs.declared.catching_up.Next.{Next}
 use Rattle.merkle_wire.specs.declared.catching_up.Next.TheVariants.{Ask, Came}
@@ -35,7 +35,7 @@ module _ {K V H : Type 0} (laws : Laws K V H) (peer : Side K V H) (root : Tree K
   one_round_more rounds g (t, f, low) = (t, f, omega (arith, low))
 
   taken_steady : (question : Question K) (rounds : ℕ) (left : Limits) (f after : Found K V) → AsksForSome question → AreSteady rounds none_besides f → IsTakenFrom question f after
-      → IsSteady laws peer root (record { asked = question; found = after; rounds = rounds_with rounds question; left = left })
+      → IsSteadyCatchUp laws peer root (record { asked = question; found = after; rounds = rounds_with rounds question; left = left })
   taken_steady (Root settings) rounds left f after some s t = absurd t
   taken_steady (Outlines most gaps) rounds left f after some s (is, e) = record {
     some = some;
@@ -77,10 +77,10 @@ module _ {K V H : Type 0} (laws : Laws K V H) (peer : Side K V H) (root : Tree K
   goes_on_steady : (rounds : ℕ) (f : Found K V) (next : Next K V) → AreSteady rounds none_besides f → GoesOn laws.cmp encoding rounds f next → SteadyNext laws peer root next
   goes_on_steady rounds f (Came rows) s goes = tt
   goes_on_steady rounds f (Ask session message) s (asked, is, same) =
-      subst (IsSteady laws peer root) (λ i. record { asked = session.asked; found = session.found; rounds = sym same i; left = session.left }) (from asked.1)
+      subst (IsSteadyCatchUp laws peer root) (λ i. record { asked = session.asked; found = session.found; rounds = sym same i; left = session.left }) (from asked.1)
     where
       from : IsTakenFrom session.asked f session.found ⊎ IsTakenFrom session.asked (all_whole f) session.found
-          → IsSteady laws peer root (record { asked = session.asked; found = session.found; rounds = rounds_with rounds session.asked; left = session.left })
+          → IsSteadyCatchUp laws peer root (record { asked = session.asked; found = session.found; rounds = rounds_with rounds session.asked; left = session.left })
       from (inl t) = taken_steady session.asked rounds session.left f session.found asked.0 s t
       from (inr t) = taken_steady session.asked rounds session.left (all_whole f) session.found asked.0 (whole_steady rounds f s) t
 
@@ -98,7 +98,7 @@ module _ {K V H : Type 0} (laws : Laws K V H) (peer : Side K V H) (root : Tree K
   next_steady None rounds f next fit s goes = goes_on_steady rounds f next s goes
   next_steady (Some question) rounds f (Came rows) fit s goes = tt
   next_steady (Some question) rounds f (Ask session message) fit s (is, same) =
-      subst (IsSteady laws peer root) (sym same) (record { some = fit.0; asked = fit.1; below = s.below; nodes = s.nodes; once = s.once })
+      subst (IsSteadyCatchUp laws peer root) (sym same) (record { some = fit.0; asked = fit.1; below = s.below; nodes = s.nodes; once = s.once })
 
   pub again_fit : {X : Type 0} (ask : Vec X → Question K) (F : X → Type 0) (times : K → X → ℕ) (rounds : ℕ) (left : List X) (again : Option (Question K))
       → ((xs : Vec X) → xs.items ≢ [] → AsksForSome (ask xs))

@@ -20,7 +20,7 @@ use Rattle.merkle_wire.specs.Outlines.{Outline, rows_told, digests_told, page_to
 use Rattle.merkle_wire.specs.Questions.{IsQuestion}
 use Rattle.merkle_wire.specs.Replies.{Part}
 use Rattle.merkle_wire.specs.Steady.{AreKeysOf}
-use Rattle.merkle_wire.specs.Taking.{AreBehind, AreNewGaps, AreTaken, IsBehind, IsNewGap, IsRootTaken, IsTaken, has_digest, new_keys}
+use Rattle.merkle_wire.specs.Taking.{AreBehind, AreNewGaps, AreTaken, IsBehind, IsNewGap, IsRootTaken, IsPageTaken, has_digest, new_keys}
 use Rattle.merkle_wire.specs.declared.gaps.OwnedGap.{OwnedGap}
 use Rattle.merkle_wire.specs.declared.question.Question.{Question}
 use Rattle.merkle_wire.specs.declared.question.Question.TheVariants.{Root, Outlines, Nodes, RowsAt, RowsIn}
@@ -80,7 +80,7 @@ module _ {K V H : Type 0} (laws : Laws K V H) (o : IsTotalOrder laws.cmp) (is_ke
 
   one_keys : (rows : List (K × V)) (with_pages : Bool) (items : List (Item K (List ℕ))) (g : Gap K) (x y : Outline K V) (before after : Found K V)
       → AllByRecursion (λ m. is_key m.0) (nodes_among items) → HasKeyBounds is_key g
-      → SameOutline laws.cmp laws.eq x y → IsTold laws.cmp rows with_pages items y → IsTaken laws local g x before after → Keys before → Keys after
+      → SameOutline laws.cmp laws.eq x y → IsTold laws.cmp rows with_pages items y → IsPageTaken laws local g x before after → Keys before → Keys after
   one_keys rows with_pages items g (rows_told rs) y before after nodes p same told taken f =
       subst Keys (sym taken) (record { below = f.below; nodes = f.nodes; wanted = f.wanted; whole = f.whole })
   one_keys rows with_pages items g (digests_told ns) (digests_told ms) before after nodes p same (none, told) taken f =

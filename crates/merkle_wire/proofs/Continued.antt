@@ -48,7 +48,8 @@ module _ {X Y : Type 0} (P : X → Y → Type 0) (bytes : X × Y → List ℕ) (
   continued_all asked begun now i on all = on now (told_upto (drop i asked) now (inl (drop_all i asked all)))
 
   -- after a front of two bytes that answers, since at least one entry is told
-  pub telling_answers : (asked : List X) (begun reply : List ℕ) → length begun ≡ 2 → IsTelling asked begun reply → (told : List (X × Y)) × TellsFirst P asked told × (reply ≡ begun ++ flat_map bytes told)
+  pub telling_answers : (asked : List X) (begun reply : List ℕ) → length begun ≡ 2 → IsTelling asked begun reply → (told : List (X × Y))
+      × TellsFirst P asked told × (reply ≡ begun ++ flat_map bytes told)
   telling_answers asked begun reply two t = (t.fits.told, record { left = t.fits.left; begins = t.fits.begins; some = some; each = t.holds }, t.fits.is)
     where
       some : asked ≢ [] → t.fits.told ≢ []

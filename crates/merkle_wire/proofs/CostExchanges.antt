@@ -26,9 +26,9 @@ use Rattle.merkle_wire.specs.Gaps.{owned_gap}
 use Rattle.merkle_wire.specs.Next.{IsNext}
 use Rattle.merkle_wire.specs.Outlines.{Outline, rows_told, digests_told, page_told, IsTold}
 use Rattle.merkle_wire.specs.Replies.{IsReply, items_over, whole_digest}
-use Rattle.merkle_wire.specs.Steady.{AsksForPages, IsFilled, IsSteady, total}
-use Rattle.merkle_wire.specs.Taking.{AreNewGaps, AreTaken, HasPageAt, IsRootTaken, IsTaken}
-use Rattle.merkle_wire.specs.Underway.{HasTaken, Underway}
+use Rattle.merkle_wire.specs.Steady.{AsksForPages, IsFilled, IsSteadyCatchUp, total}
+use Rattle.merkle_wire.specs.Taking.{AreNewGaps, AreTaken, HasPageAt, IsRootTaken, IsPageTaken}
+use Rattle.merkle_wire.specs.Underway.{HasTakenReply, Underway}
 use Rattle.merkle_wire.specs.declared.catching_up.Next.{Next}
 use Rattle.merkle_wire.specs.declared.gaps.OwnedGap.{OwnedGap}
 use Rattle.merkle_wire.specs.declared.message.Kind.TheVariants.{Outlines as outlines_kind, Nodes as nodes_kind}
@@ -82,7 +82,7 @@ module _ {K V H : Type 0} (laws : Laws K V H) (o : IsTotalOrder laws.cmp) (eqv :
       omega (arith, some_lacked g t, lacked_filled laws o local format (one_digest format) is_there tells root (up_root laws o eqv encoding values tell n local peer root sides small) g t f)
 
   one_pays : (rounds : ℕ) (g h : Gap K) (x y : Outline K V) (before after : Found K V) → Filled rounds g → SameGap laws.cmp g h → SameOutline laws.cmp laws.eq x y
-      → IsTold laws.cmp peer.rows true (outline_over format laws.bytes_of laws.cmp tree h) y → IsTaken laws local g x before after → pages_found after + 1 ≤ pages_found before + over_root g
+      → IsTold laws.cmp peer.rows true (outline_over format laws.bytes_of laws.cmp tree h) y → IsPageTaken laws local g x before after → pages_found after + 1 ≤ pages_found before + over_root g
   one_pays rounds g h (rows_told rs) y before after filled s same told taken = omega (arith, ap pages_found taken, over_filled rounds g filled)
   one_pays rounds g h (digests_told ns) y before after filled s same told taken = omega (arith, ap pages_found taken, over_filled rounds g filled)
   one_pays rounds g h (page_told c js ps) (page_told d ks qs) before after (t, f, low) s same (with, is, are, beside) (gaps, own, new, kept, taken) =
@@ -133,7 +133,7 @@ module _ {K V H : Type 0} (laws : Laws K V H) (o : IsTotalOrder laws.cmp) (eqv :
   nodes_more [] before after taken = omega (arith, ap nodes_found taken)
   nodes_more (t ∷ ts) before after (mid, one, more) = omega (arith, by t.1 one, nodes_more ts mid after more)
     where
-      by : (x : Outline K V) → IsTaken laws local (owned_gap t.0) x before mid → nodes_found mid ≤ nodes_found before + 1
+      by : (x : Outline K V) → IsPageTaken laws local (owned_gap t.0) x before mid → nodes_found mid ≤ nodes_found before + 1
       by (rows_told rs) taken = omega (arith, ap nodes_found taken)
       by (digests_told ns) taken = omega (arith, ap nodes_found taken)
       by (page_told c js ps) (gaps, own, new, kept, taken) =
@@ -150,7 +150,7 @@ module _ {K V H : Type 0} (laws : Laws K V H) (o : IsTotalOrder laws.cmp) (eqv :
       let first = by t.1 u.1 s.0.1 told.0 one in
       (rest.0 ∙ first.0, rest.1 ∙ first.1)
     where
-      by : (x y : Outline K V) → SameOutline laws.cmp laws.eq x y → Told false (u.0, y) → IsTaken laws local (owned_gap t.0) x before mid
+      by : (x y : Outline K V) → SameOutline laws.cmp laws.eq x y → Told false (u.0, y) → IsPageTaken laws local (owned_gap t.0) x before mid
           → (pages_found mid ≡ pages_found before) × (nodes_found mid ≡ nodes_found before)
       by (rows_told rs) y same told taken = (ap pages_found taken, ap nodes_found taken)
       by (digests_told ns) y same told taken = (ap pages_found taken, ap nodes_found taken)
@@ -201,8 +201,8 @@ module _ {K V H : Type 0} (laws : Laws K V H) (o : IsTotalOrder laws.cmp) (eqv :
 
   -- a reply is paid for
   reply_pays : (digest_of : K → List ℕ) (u : Underway K V) (question : Question K) (reply : List ℕ) (after : Found K V) (again : Option (Question K))
-      → IsSteady laws (side peer) root u → SameQuestion laws.cmp encoding u.asked question
-      → IsReply laws.cmp laws.bytes_of encoding values digest_of n peer.rows peer.tree question reply → (taken : HasTaken laws n encoding values local u.asked reply u.found after again)
+      → IsSteadyCatchUp laws (side peer) root u → SameQuestion laws.cmp encoding u.asked question
+      → IsReply laws.cmp laws.bytes_of encoding values digest_of n peer.rows peer.tree question reply → (taken : HasTakenReply laws n encoding values local u.asked reply u.found after again)
       → (pages_taken laws n encoding values local u.asked reply u.found after again
       taken + (again_of (pages_by laws (side peer) root is_there) again + pages_found after) ≤ pages_by laws (side peer) root is_there u.asked + pages_found u.found)
       × (nodes_taken laws n encoding values local u.asked reply u.found after again taken + (again_of (nodes_by laws (side peer) root is_there) again + nodes_found after)
@@ -210,7 +210,7 @@ module _ {K V H : Type 0} (laws : Laws K V H) (o : IsTotalOrder laws.cmp) (eqv :
   reply_pays digest_of u question reply after again s = by u.asked question s.asked
     where
       by : (asked question : Question K) → AsksForPages laws (side peer) root u.rounds asked → SameQuestion laws.cmp encoding asked question
-          → IsReply laws.cmp laws.bytes_of encoding values digest_of n peer.rows peer.tree question reply → (taken : HasTaken laws n encoding values local asked reply u.found after again)
+          → IsReply laws.cmp laws.bytes_of encoding values digest_of n peer.rows peer.tree question reply → (taken : HasTakenReply laws n encoding values local asked reply u.found after again)
           → (pages_taken laws n encoding values local asked reply u.found after again
           taken + (again_of (pages_by laws (side peer) root is_there) again + pages_found after) ≤ pages_by laws (side peer) root is_there asked + pages_found u.found)
           × (nodes_taken laws n encoding values local asked reply u.found after again taken + (again_of (nodes_by laws (side peer) root is_there) again + nodes_found after)
@@ -258,7 +258,7 @@ module _ {K V H : Type 0} (laws : Laws K V H) (o : IsTotalOrder laws.cmp) (eqv :
       by asked question pages alike is taken = absurd alike
 
   -- so is an exchange
-  pub exchange_pays : (digest_of : K → List ℕ) (before : Underway K V) (question : Question K) (reply : List ℕ) (next : Next K V) → IsSteady laws (side peer) root before
+  pub exchange_pays : (digest_of : K → List ℕ) (before : Underway K V) (question : Question K) (reply : List ℕ) (next : Next K V) → IsSteadyCatchUp laws (side peer) root before
       → SameQuestion laws.cmp encoding before.asked question
       → IsReply laws.cmp laws.bytes_of encoding values digest_of n peer.rows peer.tree question reply → (takes : IsNext laws n encoding values local before reply next)
       → PayFor laws (side peer) root is_there (pages_taken laws n encoding values local before.asked reply before.found takes.0 takes.1 takes.2)

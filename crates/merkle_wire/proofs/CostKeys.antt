@@ -23,8 +23,8 @@ use Rattle.merkle_wire.specs.Next.{AsksOrGoesOn, IsNext}
 use Rattle.merkle_wire.specs.Outlines.{Outline, rows_told, digests_told, page_told, IsTold}
 use Rattle.merkle_wire.specs.Replies.{IsReply, items_over}
 use Rattle.merkle_wire.specs.Steady.{times_asked, times_at, times_in, times_over, total}
-use Rattle.merkle_wire.specs.Taking.{AreTaken, IsRootTaken, IsTaken, has_digest, is_digest, new_keys}
-use Rattle.merkle_wire.specs.Underway.{AsksAgain, HasTaken, Underway}
+use Rattle.merkle_wire.specs.Taking.{AreTaken, IsRootTaken, IsPageTaken, has_digest, is_digest, new_keys}
+use Rattle.merkle_wire.specs.Underway.{AsksAgain, HasTakenReply, Underway}
 use Rattle.merkle_wire.specs.declared.catching_up.Next.{Next}
 use Rattle.merkle_wire.specs.declared.catching_up.Next.TheVariants.{Ask, Came}
 use Rattle.merkle_wire.specs.declared.gaps.OwnedGap.{OwnedGap}
@@ -137,7 +137,8 @@ module _ {K V H : Type 0} (laws : Laws K V H) (local peer : Side K V H) where
 
 module _ {K V H : Type 0} (laws : Laws K V H) (n : ℕ) (encoding : K → List ℕ) (values : V → List ℕ) (local : Side K V H) where
   -- how often a reply told the value at a key
-  abbrev pub told_at : (k : K) (asked : Question K) (reply : List ℕ) (before after : Found K V) (again : Option (Question K)) → HasTaken laws n encoding values local asked reply before after again → ℕ
+  abbrev pub told_at : (k : K) (asked : Question K) (reply : List ℕ) (before after : Found K V) (again : Option (Question K))
+      → HasTakenReply laws n encoding values local asked reply before after again → ℕ
   told_at k (Root settings) reply before after again taken = 0
   told_at k (Outlines most gaps) reply before after again taken = 0
   told_at k (Nodes most gaps) reply before after again taken = 0
@@ -148,7 +149,7 @@ module _ {K V H : Type 0} (laws : Laws K V H) (o : IsTotalOrder laws.cmp) (eqv :
     (local : Side K V H) (peer : Contents K V H) (root : Tree K (List ℕ)) (sides : AreSides laws local (side peer) root peer.tree.root)
     (small : AllByRecursion (λ p. length p.1 ≡ n) (tree_map laws (side peer))) where
   -- rows that were found stay
-  rows_more : (asked : Question K) (reply : List ℕ) (before after : Found K V) (again : Option (Question K)) (k : K) → HasTaken laws n encoding values local asked reply before after again
+  rows_more : (asked : Question K) (reply : List ℕ) (before after : Found K V) (again : Option (Question K)) (k : K) → HasTakenReply laws n encoding values local asked reply before after again
       → total (λ r. times_at laws.cmp k r.0) before.rows ≤ total (λ r. times_at laws.cmp k r.0) after.rows
   rows_more asked reply before after again k taken =
       let (new, each, is) = taken_asked laws o local n encoding values asked reply before after again taken in
@@ -157,7 +158,7 @@ module _ {K V H : Type 0} (laws : Laws K V H) (o : IsTotalOrder laws.cmp) (eqv :
   -- a key that was told is told no more
   pub reply_at : (k : K) (digest_of : K → List ℕ) (asked question : Question K) (reply : List ℕ) (before after : Found K V) (again : Option (Question K))
       → SameQuestion laws.cmp encoding asked question
-      → IsReply laws.cmp laws.bytes_of encoding values digest_of n peer.rows peer.tree question reply → (taken : HasTaken laws n encoding values local asked reply before after again)
+      → IsReply laws.cmp laws.bytes_of encoding values digest_of n peer.rows peer.tree question reply → (taken : HasTakenReply laws n encoding values local asked reply before after again)
       → told_at laws n encoding values local k asked reply before after again
       taken + (again_of (asked_at laws (side peer) root k) again + left_at laws (side peer) root k after) ≤ asked_at laws (side peer) root k asked + left_at laws (side peer) root k before
   reply_at k digest_of (Root a) (Root b) reply before after again alike is (count, digest, read, taken, none) =
@@ -259,7 +260,7 @@ module _ {K V H : Type 0} (laws : Laws K V H) (o : IsTotalOrder laws.cmp) (eqv :
   outlines_want with_pages (t ∷ ts) (u ∷ us) before after s told (mid, one, more) a = outlines_want with_pages ts us mid after s.1 told.1 more (by t.1 u.1 s.0.1 told.0 one)
     where
       by : (x y : Outline K V) → SameOutline laws.cmp laws.eq x y → IsTold laws.cmp peer.rows with_pages (items_over laws.cmp laws.bytes_of peer.tree u.0) y
-          → IsTaken laws local (owned_gap t.0) x before mid → Wanting mid
+          → IsPageTaken laws local (owned_gap t.0) x before mid → Wanting mid
       by (rows_told rs) y same is taken = subst Wanting (sym taken) a
       by (digests_told ns) (digests_told ms) same (none, is) taken =
           subst Wanting (sym taken)
@@ -282,7 +283,7 @@ module _ {K V H : Type 0} (laws : Laws K V H) (o : IsTotalOrder laws.cmp) (eqv :
   -- what is taken of a reply keeps to such keys, and so do those at which it told values
   reply_wants : (digest_of : K → List ℕ) (asked question : Question K) (reply : List ℕ) (before after : Found K V) (again : Option (Question K)) → Wanting before
       → AsksLacked laws local (side peer) asked → SameQuestion laws.cmp encoding asked question
-      → IsReply laws.cmp laws.bytes_of encoding values digest_of n peer.rows peer.tree question reply → (taken : HasTaken laws n encoding values local asked reply before after again)
+      → IsReply laws.cmp laws.bytes_of encoding values digest_of n peer.rows peer.tree question reply → (taken : HasTakenReply laws n encoding values local asked reply before after again)
       → Wanting after × AsksLackedAgain laws local (side peer) again
       × (keys_taken laws n encoding values local asked reply before after again taken ≤ total
       (λ p. told_at laws n encoding values local p.0 asked reply before after again taken) (lacked laws local (side peer)))

@@ -26,7 +26,7 @@ use Rattle.merkle_wire.specs.Replies.{TellsFirst, IsPartOf, IsReply, Part, items
 use Rattle.merkle_wire.specs.Sessions.{IsRowOfPeer}
 use Rattle.merkle_wire.specs.Steady.{AreKeysOf, CanBeTold, HasKeysNext, HasKeysOfSides, IsKeyOf, IsKeyOfSides}
 use Rattle.merkle_wire.specs.Taking.{new_rows, value_row}
-use Rattle.merkle_wire.specs.Underway.{AsksAgain, HasOutlines, HasParts, HasTaken, Underway}
+use Rattle.merkle_wire.specs.Underway.{AsksAgain, HasOutlines, HasParts, HasTakenReply, Underway}
 use Rattle.merkle_wire.specs.declared.catching_up.Next.{Next}
 use Rattle.merkle_wire.specs.declared.catching_up.Next.TheVariants.{Ask, Came}
 use Rattle.merkle_wire.specs.declared.gaps.OwnedGap.{OwnedGap}
@@ -167,7 +167,7 @@ module _ {K V H : Type 0} (laws : Laws K V H) (o : IsTotalOrder laws.cmp) (eqv :
   taken_next : (digest_of : K → List ℕ) (asked question : Question K) (reply : List ℕ) (before after : Found K V) (again : Option (Question K)) → IsQuestion IsKey asked
       → Keys before → SameQuestion laws.cmp encoding asked question
       → IsReply laws.cmp laws.bytes_of encoding values digest_of n peer.rows peer.tree question reply
-      → HasTaken laws n encoding values local asked reply before after again → IsAgain again × Keys after
+      → HasTakenReply laws n encoding values local asked reply before after again → IsAgain again × Keys after
   taken_next digest_of (Root a) (Root b) reply before after again q keys alike is (count, digest, read, taken, none) =
       (subst IsAgain (sym none) tt, root_keys laws o IsKey same local digest before after taken keys)
   taken_next digest_of (Outlines m gs) (Outlines m' hs) reply before after again q keys alike (told', answers, sent) (left, has, asks) =

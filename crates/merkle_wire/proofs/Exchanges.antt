@@ -27,7 +27,7 @@ use Rattle.merkle_wire.specs.Outlines.{Outline, IsTold, nodes_among}
 use Rattle.merkle_wire.specs.Replies.{TellsFirst, Part, IsReply, IsPartOf, items_over, outlines_bytes, parts_bytes, values_bytes, whole_digest}
 use Rattle.merkle_wire.specs.Sessions.{IsFaithfulSession, IsAmong, AsksAbout, IsRowOfPeer, IsNewRow}
 use Rattle.merkle_wire.specs.Taking.{IsRootTaken, new_rows, value_row}
-use Rattle.merkle_wire.specs.Underway.{AsksAgain, HasOutlines, HasValues, HasParts, HasTaken}
+use Rattle.merkle_wire.specs.Underway.{AsksAgain, HasOutlines, HasValues, HasParts, HasTakenReply}
 use Rattle.merkle_wire.specs.declared.gaps.OwnedGap.{OwnedGap}
 use Rattle.merkle_wire.specs.declared.message.Kind.{Kind}
 use Rattle.merkle_wire.specs.declared.message.Kind.TheVariants.{Root as root_kind, Outlines as outlines_kind, Nodes as nodes_kind, RowsAt as rows_at_kind, RowsIn as rows_in_kind}
@@ -235,7 +235,7 @@ module _ {K V H : Type 0} (laws : Laws K V H) (o : IsTotalOrder laws.cmp) (eqv :
   -- a reply is taken
   pub takes : (digest_of : K → List ℕ) (asked question : Question K) (reply : List ℕ) (before after : Found K V) (again : Option (Question K)) → SameQuestion laws.cmp encoding asked question
       → IsReply laws.cmp laws.bytes_of encoding values digest_of n peer.rows peer.tree question reply
-      → HasTaken laws n encoding values local asked reply before after again → Takes asked again before after
+      → HasTakenReply laws n encoding values local asked reply before after again → Takes asked again before after
   takes digest_of (Root s) (Root t) reply before after again same (settings, sent) (count, digest, read, taken, none) =
       let is = root_tells count (length peer.rows) digest (whole_digest (whole_item peer.tree.format laws.bytes_of peer.tree.root)) (sym read ∙ sent) in
       let (keeps, rows) = root_takes laws o eqv local (side peer) root peer.tree.root sides digest before after taken in

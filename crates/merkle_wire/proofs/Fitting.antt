@@ -21,7 +21,7 @@ use Rattle.merkle_wire.specs.Coming.{IsPageDigest, LiesIn}
 use Rattle.merkle_wire.specs.Found.{Found}
 use Rattle.merkle_wire.specs.Gaps.{owned_gap}
 use Rattle.merkle_wire.specs.Outlines.{Outline, rows_told, digests_told, page_told, IsTold, nodes_among, keys_among, pages_beside}
-use Rattle.merkle_wire.specs.Taking.{AreNewGaps, IsTaken, AreTaken}
+use Rattle.merkle_wire.specs.Taking.{AreNewGaps, IsPageTaken, AreTaken}
 use Rattle.merkle_wire.specs.declared.gaps.OwnedGap.{OwnedGap}
 use Rattle.merkle_wire.proofs.PagesBelow.{items_in}
 use Rattle.merkle_wire.proofs.TellingReplies.{Fits}
@@ -54,7 +54,7 @@ module _ {K V H : Type 0} (laws : Laws K V H) (local : Side K V H) (n : ℕ) whe
   gaps_length gap (k ∷ ks) [] new a = absurd a
   gaps_length gap (k ∷ ks) (p ∷ ps) new (first, rest, one, more, q) = ap suc (gaps_length (part_behind gap k) ks ps rest more)
 
-  one_fits : (gap : Gap K) (x : Outline K V) (before after : Found K V) → LiesIn laws.cmp n gap x → IsTaken laws local gap x before after → Fits n x
+  one_fits : (gap : Gap K) (x : Outline K V) (before after : Found K V) → LiesIn laws.cmp n gap x → IsPageTaken laws local gap x before after → Fits n x
   one_fits gap (rows_told rows) before after l t = tt
   one_fits gap (digests_told nodes) before after l t = l.1
   one_fits gap (page_told digest keys pages) before after l (gaps, nodes, new, own, t) = (l.2, gaps_length gap keys pages gaps new, l.3)

@@ -19,7 +19,7 @@ use Rattle.merkle_tree_theory.specs.Canonical.{IsCanonicalRoot, IsTreeOf, SamePa
 use Rattle.merkle_tree_theory.specs.State.{SameSettings, map_of}
 use Rattle.merkle_tree_theory.specs.Gap.{IsInGap}
 use Rattle.merkle_tree_theory.specs.Tree.{Tree}
-use Rattle.merkle_wire.specs.Asking.{IsAtEnd, IsTakenFrom, all_whole}
+use Rattle.merkle_wire.specs.Asking.{AsksNothingMore, IsTakenFrom, all_whole}
 use Rattle.merkle_wire.specs.Found.{Found, nothing}
 use Rattle.merkle_wire.specs.Gaps.{owned_gap}
 use Rattle.merkle_wire.specs.Next.{GoesOn, AsksOrGoesOn, IsNext}
@@ -98,7 +98,7 @@ module _ {K V H : Type 0} (laws : Laws K V H) (o : IsTotalOrder laws.cmp) (local
   whole_keeps f k (inr (inr (inr (inr a)))) = inr (inr (inr (inr a)))
 
   -- where nothing is to be asked for, a key is a row's
-  done_rows : (f : Found K V) (k : K) → IsAtEnd f → Among k f → AnyByRecursion (λ r. Same laws.cmp k r.0) f.rows
+  done_rows : (f : Found K V) (k : K) → AsksNothingMore f → Among k f → AnyByRecursion (λ r. Same laws.cmp k r.0) f.rows
   done_rows f k done (inl a) = absurd (subst (AnyByRecursion (IsInGap laws.cmp k)) done.0 a)
   done_rows f k done (inr (inl a)) = absurd (subst (AnyByRecursion (IsNodeOver laws peer root k)) done.1 a)
   done_rows f k done (inr (inr (inl a))) = absurd (subst (AnyByRecursion (Same laws.cmp k)) done.2 a)

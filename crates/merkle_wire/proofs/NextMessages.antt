@@ -3,13 +3,13 @@ use Rattle.std.proofs.Common.{◌≡◌, ◌≢◌, ℕ, List, [], Option, Some,
 use Rattle.std.specs.declared.cmp.Ordering.{Ordering}
 use Rattle.merkle_replica.specs.Contents.{Side}
 use Rattle.merkle_replica.specs.Laws.{Laws}
-use Rattle.merkle_wire.specs.Asking.{AsksForOutlines, IsAskedOf, IsAtEnd}
+use Rattle.merkle_wire.specs.Asking.{AsksForOutlines, IsAskedOf, AsksNothingMore}
 use Rattle.merkle_wire.specs.Faults.{IsRefusedFor}
 use Rattle.merkle_wire.specs.Fit.{IsFit}
 use Rattle.merkle_wire.specs.Found.{Found}
 use Rattle.merkle_wire.specs.Next.{AsksFew, AsksOrGoesOn, GoesOn, HaveTwins, IsAsked, IsCame, IsEnded, IsNext, IsStopped, IsTwice, rounds_with}
 use Rattle.merkle_wire.specs.Questions.{question_bytes}
-use Rattle.merkle_wire.specs.Underway.{Underway, HasTaken}
+use Rattle.merkle_wire.specs.Underway.{Underway, HasTakenReply}
 use Rattle.merkle_wire.specs.declared.catching_up.Next.{Next}
 use Rattle.merkle_wire.specs.declared.catching_up.Next.TheVariants.{Ask, Came}
 use Rattle.merkle_wire.specs.Gaps.{owned_gap}
@@ -22,12 +22,12 @@ use Rattle.merkle_wire.proofs.LeftToAsk.{some_mapped}
 module _ {K V H : Type 0} where
   pub is_next : (laws : Laws K V H) (n : ℕ) (encoding : K → List ℕ) (values : V → List ℕ) (local was : Side K V H) (before inside : Underway K V) (reply : List ℕ)
       (found : Found K V) (again answered : Option (Question K)) (next : Next K V)
-      → was ≡ local → inside ≡ before → answered ≡ again → HasTaken laws n encoding values was inside.asked reply inside.found found answered
+      → was ≡ local → inside ≡ before → answered ≡ again → HasTakenReply laws n encoding values was inside.asked reply inside.found found answered
       → AsksOrGoesOn laws.cmp encoding again inside.rounds found next
       → IsNext laws n encoding values local before reply next
   is_next laws n encoding values local was before inside reply found again answered next l s a taken goes =
       subst (λ u. IsNext laws n encoding values local u reply next) s
-      (subst (λ t. IsNext laws n encoding values t inside reply next) l (found, again, subst (HasTaken laws n encoding values was inside.asked reply inside.found found) a taken, goes))
+      (subst (λ t. IsNext laws n encoding values t inside reply next) l (found, again, subst (HasTakenReply laws n encoding values was inside.asked reply inside.found found) a taken, goes))
 
 module _ {K V : Type 0} (cmp : K → K → Ordering) where
   -- what is asked of what is found goes on with it
@@ -53,7 +53,7 @@ module _ {K V : Type 0} (cmp : K → K → Ordering) where
   pub came_goes_on : (encoding : K → List ℕ) (rounds : ℕ) (before after : Found K V) (rows : List (K × V)) (next : Next K V) → IsAskedOf None before after
       → rows ≡ after.rows → IsCame cmp rows next → GoesOn cmp encoding rounds before next
   came_goes_on encoding rounds before after rows (Ask session message) done is came = absurd came
-  came_goes_on encoding rounds before after rows (Came all) done is came = (subst IsAtEnd done.1 done.0, subst (λ rs. IsCame cmp rs (Came all)) (is ∙ ap (λ f. f.rows) done.1) came)
+  came_goes_on encoding rounds before after rows (Came all) done is came = (subst AsksNothingMore done.1 done.0, subst (λ rs. IsCame cmp rs (Came all)) (is ∙ ap (λ f. f.rows) done.1) came)
 
   pub came_few : (rows : List (K × V)) (next : Next K V) → IsCame cmp rows next → AsksFew next
   came_few rows (Ask session message) came = absurd came
@@ -63,7 +63,7 @@ module _ {K V : Type 0} (cmp : K → K → Ordering) where
   pub twice_ends : (rounds : ℕ) (before after : Found K V) (rows : List (K × V)) (error : SessionError) → IsAskedOf None before after → rows ≡ after.rows
       → IsTwice cmp rows error → IsEnded cmp rounds before error
   twice_ends rounds before after rows Memory done is twice = tt
-  twice_ends rounds before after rows Twice done is twice = (subst IsAtEnd done.1 done.0, subst (HaveTwins cmp) (is ∙ ap (λ f. f.rows) done.1) twice)
+  twice_ends rounds before after rows Twice done is twice = (subst AsksNothingMore done.1 done.0, subst (HaveTwins cmp) (is ∙ ap (λ f. f.rows) done.1) twice)
   twice_ends rounds before after rows (Malformed e) done is twice = absurd twice
   twice_ends rounds before after rows OtherKind done is twice = absurd twice
   twice_ends rounds before after rows Refused done is twice = absurd twice
@@ -92,7 +92,7 @@ module _ {K V H : Type 0} (laws : Laws K V H) (n : ℕ) (encoding : K → List �
   refused_stops (Limit limit) not = absurd not
 
   -- so does one after which it doesn't go on
-  pub ended_stops : (found : Found K V) (error : SessionError) → HasTaken laws n encoding values local before.asked reply before.found found None
+  pub ended_stops : (found : Found K V) (error : SessionError) → HasTakenReply laws n encoding values local before.asked reply before.found found None
       → IsEnded laws.cmp before.rounds found error → Stopped error
   ended_stops found Memory taken ended = tt
   ended_stops found TooManyRounds taken ended = (ended.0, found, taken, ended.1)
@@ -109,9 +109,9 @@ module _ {K V H : Type 0} (laws : Laws K V H) (n : ℕ) (encoding : K → List �
 module _ {K V H : Type 0} (laws : Laws K V H) (n : ℕ) (encoding : K → List ℕ) (values : V → List ℕ) (is_key : K → Type 0) (is_value : V → Type 0) where
   pub is_stopped : (local was : Side K V H) (before inside : Underway K V) (reply : List ℕ) (found : Found K V) (answered : Option (Question K)) (error : SessionError)
       → was ≡ local → inside ≡ before → answered ≡ None
-      → HasTaken laws n encoding values was inside.asked reply inside.found found answered → IsEnded laws.cmp inside.rounds found error
+      → HasTakenReply laws n encoding values was inside.asked reply inside.found found answered → IsEnded laws.cmp inside.rounds found error
       → IsStopped laws n encoding values is_key is_value local before reply error
   is_stopped local was before inside reply found answered error l s a taken ended =
       subst (λ u. IsStopped laws n encoding values is_key is_value local u reply error) s
       (subst (λ t. IsStopped laws n encoding values is_key is_value t inside reply error) l
-      (ended_stops laws n encoding values is_key is_value was inside reply found error (subst (HasTaken laws n encoding values was inside.asked reply inside.found found) a taken) ended))
+      (ended_stops laws n encoding values is_key is_value was inside reply found error (subst (HasTakenReply laws n encoding values was inside.asked reply inside.found found) a taken) ended))

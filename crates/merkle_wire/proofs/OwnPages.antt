@@ -27,7 +27,8 @@ use Rattle.merkle_tree_theory.specs.Tree.{Tree}
 use Rattle.merkle_tree_theory.proofs.InGaps.{in_gap_from_test, is_after-alike, is_before-alike, none_within, test_from_in_gap, within-append}
 use Rattle.merkle_tree_theory.proofs.PageOverGap.{filled_opens, over_inside}
 use Rattle.merkle_tree_theory.proofs.PagesIn.{inside}
-use Rattle.merkle_wire.specs.Cost.{has_page_at, is_page_at, lie_in, own_tree}
+use Rattle.merkle_replica.specs.Missing.{own_tree}
+use Rattle.merkle_wire.specs.Cost.{has_page_at, is_page_at, lie_in}
 use Rattle.merkle_wire.specs.Taking.{HasPageAt}
 use Rattle.merkle_wire.proofs.FilledGaps.{context_down, filling_in_gap}
 use Rattle.merkle_wire.proofs.InGaps.{all_pass}

@@ -31,7 +31,7 @@ use Rattle.merkle_tree_theory.proofs.PagesIn.{page_in}
 use Rattle.merkle_wire.specs.Found.{Found}
 use Rattle.merkle_wire.specs.Outlines.{Outline, rows_told, digests_told, page_told, IsTold, HasNoPage, nodes_among, keys_among, pages_beside, nodes_digest}
 use Rattle.merkle_wire.specs.Sessions.{IsFaithfulSession, IsNodeOver, IsAmong, IsRowOfPeer, IsNewRow}
-use Rattle.merkle_wire.specs.Taking.{HasNodes, AreNewGaps, IsTaken, new_rows, new_keys}
+use Rattle.merkle_wire.specs.Taking.{HasNodes, AreNewGaps, IsPageTaken, new_rows, new_keys}
 use Rattle.merkle_wire.proofs.RoundCovers.{new_keys_cover, has_not_all, rows_at_theirs, rows_at_cover, theirs_alike, any_alike, has_row_there, new_rows_new, new_rows_cover}
 use Rattle.merkle_wire.proofs.OverGaps.{over_has}
 use Rattle.merkle_wire.proofs.PagesBelow.{in_gap-alike, map_inside, items_in, nodes_are, nodes_over_in, all_nodes, IsShown, shown}
@@ -174,7 +174,7 @@ module _ {K V H : Type 0} (laws : Laws K V H) (o : IsTotalOrder laws.cmp) (eqv :
   -- what was told is taken: a key that it is about is among what was found
   pub one_covers : IsFaithfulSession laws local peer → (with_pages : Bool) (g h : Gap K) (x y : Outline K V) (before after : Found K V) (k : K) → Lacked k
       → SameGap laws.cmp g h → SameOutline laws.cmp laws.eq x y → IsAbout with_pages k g
-      → IsTold laws.cmp peer.rows with_pages (items h) y → IsTaken laws local g x before after → IsAmong laws peer root k after
+      → IsTold laws.cmp peer.rows with_pages (items h) y → IsPageTaken laws local g x before after → IsAmong laws peer root k after
   one_covers faith with_pages g h (rows_told rs) (rows_told ss) before after k l s same about (none, told) taken =
       let node = about_is_node with_pages g h k l s about none in
       let came = any_alike laws o eqv local peer rs ss k same (rows_at_cover laws o eqv local peer (keys_among (nodes_among (items h))) ss k (has_row_there laws o eqv local peer k l) told node) in
@@ -204,7 +204,7 @@ module _ {K V H : Type 0} (laws : Laws K V H) (o : IsTotalOrder laws.cmp) (eqv :
   one_covers faith with_pages g h (page_told c js ps) (digests_told ms) before after k l s same about told taken = absurd same
 
   -- what was found before still is
-  pub one_keeps : (g : Gap K) (x : Outline K V) (before after : Found K V) (k : K) → IsTaken laws local g x before after → IsAmong laws peer root k before → IsAmong laws peer root k after
+  pub one_keeps : (g : Gap K) (x : Outline K V) (before after : Found K V) (k : K) → IsPageTaken laws local g x before after → IsAmong laws peer root k before → IsAmong laws peer root k after
   one_keeps g (rows_told rs) before after k taken =
       among-more laws o local peer root tree k before after
       (λ a. subst (λ f. AnyByRecursion (IsInGap laws.cmp k) f.below) (sym taken) a) (λ a. subst (λ f. AnyByRecursion (IsNodeOver laws peer root k) f.nodes) (sym taken) a)
@@ -225,7 +225,7 @@ module _ {K V H : Type 0} (laws : Laws K V H) (o : IsTotalOrder laws.cmp) (eqv :
 
   -- rows that were found are new
   pub one_new : (with_pages : Bool) (g h : Gap K) (x y : Outline K V) (before after : Found K V) → SameOutline laws.cmp laws.eq x y
-      → IsTold laws.cmp peer.rows with_pages (items h) y → IsTaken laws local g x before after
+      → IsTold laws.cmp peer.rows with_pages (items h) y → IsPageTaken laws local g x before after
       → AllByRecursion New before.rows → AllByRecursion New after.rows
   one_new with_pages g h (rows_told rs) (rows_told ss) before after same told taken a =
       let theirs = theirs_alike laws o eqv local peer rs ss same (rows_at_theirs laws o eqv local peer (keys_among (nodes_among (items h))) ss told.1) in

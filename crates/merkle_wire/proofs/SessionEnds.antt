@@ -24,9 +24,9 @@ use Rattle.merkle_wire.specs.Next.{AsksOrGoesOn, IsNext}
 use Rattle.merkle_wire.specs.Outlines.{Outline, rows_told, digests_told, page_told, IsTold, nodes_among}
 use Rattle.merkle_wire.specs.Replies.{TellsFirst, IsPartOf, IsReply, Part, items_over, outlines_bytes, parts_bytes}
 use Rattle.merkle_wire.specs.Sessions.{IsRowOfPeer}
-use Rattle.merkle_wire.specs.Steady.{AsksForPages, IsFilled, IsKeyOf, IsSteady, LeavesLess, left_by, left_for, left_of, nodes_over, count_in, times_in, total}
-use Rattle.merkle_wire.specs.Taking.{AddsKeys, AreBehind, AreTaken, IsBehind, IsRootTaken, IsTaken, has_digest, new_keys}
-use Rattle.merkle_wire.specs.Underway.{AsksAgain, HasOutlines, HasParts, HasTaken, Underway}
+use Rattle.merkle_wire.specs.Steady.{AsksForPages, IsFilled, IsKeyOf, IsSteadyCatchUp, LeavesLess, left_by, left_for, left_of, nodes_over, count_in, times_in, total}
+use Rattle.merkle_wire.specs.Taking.{AddsKeys, AreBehind, AreTaken, IsBehind, IsRootTaken, IsPageTaken, has_digest, new_keys}
+use Rattle.merkle_wire.specs.Underway.{AsksAgain, HasOutlines, HasParts, HasTakenReply, Underway}
 use Rattle.merkle_wire.specs.declared.catching_up.Next.{Next}
 use Rattle.merkle_wire.specs.declared.catching_up.Next.TheVariants.{Ask, Came}
 use Rattle.merkle_wire.specs.declared.gaps.OwnedGap.{OwnedGap}
@@ -128,7 +128,7 @@ module _ {K V H : Type 0} (laws : Laws K V H) (o : IsTotalOrder laws.cmp) (eqv :
   left_about false g = 2 * nodes_of g
 
   one_less : (with_pages : Bool) (g h : Gap K) (x y : Outline K V) (before after : Found K V) → AreNodesOf g h → SameGap laws.cmp g h → SameOutline laws.cmp laws.eq x y
-      → IsTold laws.cmp peer.rows with_pages (outline_over peer.tree.format laws.bytes_of laws.cmp tree h) y → LiesIn laws.cmp n g x → IsTaken laws local g x before after
+      → IsTold laws.cmp peer.rows with_pages (outline_over peer.tree.format laws.bytes_of laws.cmp tree h) y → LiesIn laws.cmp n g x → IsPageTaken laws local g x before after
       → left_found after + 1 ≤ left_found before + left_about with_pages g
   one_less true g h (rows_told rs) y before after nodes s same told lies taken =
       omega (arith, ap left_found taken, nodes.some, ascending_counted laws o local peer.rows g (keys_of h) nodes.up nodes.keys)
@@ -317,14 +317,14 @@ module _ {K V H : Type 0} (laws : Laws K V H) (o : IsTotalOrder laws.cmp) (eqv :
 
   -- a reply leaves less to ask for
   taken_less : (digest_of : K → List ℕ) (u : Underway K V) (question : Question K) (reply : List ℕ) (after : Found K V) (again : Option (Question K))
-      → IsSteady laws (side peer) root u → SameQuestion laws.cmp encoding u.asked question
-      → IsReply laws.cmp laws.bytes_of encoding values digest_of n peer.rows peer.tree question reply → HasTaken laws n encoding values local u.asked reply u.found after again
+      → IsSteadyCatchUp laws (side peer) root u → SameQuestion laws.cmp encoding u.asked question
+      → IsReply laws.cmp laws.bytes_of encoding values digest_of n peer.rows peer.tree question reply → HasTakenReply laws n encoding values local u.asked reply u.found after again
       → left_found after + Again again + 1 ≤ left_found u.found + By u.asked
   taken_less digest_of u question reply after again s = by u.asked question s.asked
     where
       by : (asked question : Question K) → AsksForPages laws (side peer) root u.rounds asked → SameQuestion laws.cmp encoding asked question
           → IsReply laws.cmp laws.bytes_of encoding values digest_of n peer.rows peer.tree question reply
-          → HasTaken laws n encoding values local asked reply u.found after again → left_found after + Again again + 1 ≤ left_found u.found + By asked
+          → HasTakenReply laws n encoding values local asked reply u.found after again → left_found after + Again again + 1 ≤ left_found u.found + By asked
       by (Root a) (Root b) pages alike is (count, digest, read, taken, none) = omega (arith, ap Again none, root_left digest u.found after taken)
       by (Outlines m gs) (Outlines m' hs) pages alike (told', answers, sent) (left, has, asks) =
           omega (
@@ -387,7 +387,7 @@ module _ {K V H : Type 0} (laws : Laws K V H) (o : IsTotalOrder laws.cmp) (eqv :
       by (inr t) = omega (arith, taken_from_left session.asked (all_whole f) session.found t, whole_left rounds f a)
   next_left (Some question) rounds f session message a (is, e) = omega (arith, ap (left_for laws (side peer) root) e)
 
-  pub leaves_less : (digest_of : K → List ℕ) (before : Underway K V) (question : Question K) (reply : List ℕ) (next : Next K V) → IsSteady laws (side peer) root before
+  pub leaves_less : (digest_of : K → List ℕ) (before : Underway K V) (question : Question K) (reply : List ℕ) (next : Next K V) → IsSteadyCatchUp laws (side peer) root before
       → SameQuestion laws.cmp encoding before.asked question
       → IsReply laws.cmp laws.bytes_of encoding values digest_of n peer.rows peer.tree question reply → IsNext laws n encoding values local before reply next
       → LeavesLess laws (side peer) root before next

@@ -18,7 +18,7 @@ use Rattle.merkle_wire.specs.Questions.{question_bytes}
 use Rattle.merkle_wire.specs.Replies.{TellsOthers}
 use Rattle.merkle_wire.specs.Sessions.{TellsOwn, TellsOwnNext}
 use Rattle.merkle_wire.specs.Settings.{IsDigested, format_byte, settings_bytes}
-use Rattle.merkle_wire.specs.Underway.{AsksAgain, HasTaken, Underway}
+use Rattle.merkle_wire.specs.Underway.{AsksAgain, HasTakenReply, Underway}
 use Rattle.merkle_wire.specs.declared.catching_up.Next.{Next}
 use Rattle.merkle_wire.specs.declared.catching_up.Next.TheVariants.{Ask, Came}
 use Rattle.merkle_wire.specs.declared.question.Question.{Question}
@@ -106,7 +106,7 @@ module _ {K V H : Type 0} (laws : Laws K V H) (n : ℕ) (encoding : K → List �
   again_own ask own left question (inr (rest, is, some, e)) = let same : question ≡ ask rest = cc in subst (TellsOwn laws n local) (sym same) (own rest)
 
   answered_own : (asked : Question K) (reply : List ℕ) (before after : Found K V) (question : Question K)
-      → HasTaken laws n encoding values local asked reply before after (Some question) → TellsOwn laws n local question
+      → HasTakenReply laws n encoding values local asked reply before after (Some question) → TellsOwn laws n local question
   answered_own (Root s) reply before after question (count, digest, read, root, again) = absurd (cc)
   answered_own (Outlines most gaps) reply before after question (left, has, again) = again_own (Outlines most) (λ xs. tt) left question again
   answered_own (Nodes most gaps) reply before after question (left, has, again) = again_own (Nodes most) (λ xs. tt) left question again

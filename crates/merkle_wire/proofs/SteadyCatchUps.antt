@@ -38,9 +38,9 @@ use Rattle.merkle_wire.specs.Messages.{front}
 use Rattle.merkle_wire.specs.Next.{HaveTwins, IsStopped}
 use Rattle.merkle_wire.specs.Outlines.{Outline, rows_told, digests_told, page_told, IsTold, keys_among, nodes_among, outline_bytes, pages_beside}
 use Rattle.merkle_wire.specs.Replies.{TellsFirst, IsPartOf, IsReply, items_over, outlines_bytes, part_bytes, parts_bytes, values_bytes, whole_digest}
-use Rattle.merkle_wire.specs.Steady.{AsksForPages, CanBeTold, IsFilled, IsMemoryOrLimit, IsSteady, times_asked, times_at, times_in, total}
-use Rattle.merkle_wire.specs.Taking.{AreNewGaps, AreTaken, IsRootTaken, IsTaken, value_row}
-use Rattle.merkle_wire.specs.Underway.{AsksAgain, HasOutlines, HasParts, HasTaken, HasValues, Underway}
+use Rattle.merkle_wire.specs.Steady.{AsksForPages, CanBeTold, IsFilled, IsMemoryOrLimit, IsSteadyCatchUp, times_asked, times_at, times_in, total}
+use Rattle.merkle_wire.specs.Taking.{AreNewGaps, AreTaken, IsRootTaken, IsPageTaken, value_row}
+use Rattle.merkle_wire.specs.Underway.{AsksAgain, HasOutlines, HasParts, HasTakenReply, HasValues, Underway}
 use Rattle.merkle_wire.specs.declared.gaps.OwnedGap.{OwnedGap}
 use Rattle.merkle_wire.specs.declared.message.Kind.{Kind}
 use Rattle.merkle_wire.specs.declared.message.Kind.TheVariants.{Root as root_kind, Outlines as outlines_kind, Nodes as nodes_kind}
@@ -109,7 +109,7 @@ module _ {K V H : Type 0} (laws : Laws K V H) (o : IsTotalOrder laws.cmp) (eqv :
 
   one_pages : (with_pages : Bool) (rounds : ℕ) (g h : Gap K) (x y : Outline K V) (before after : Found K V) → (with_pages ≡ true → Filled 257 rounds g)
       → SameGap laws.cmp g h → SameOutline laws.cmp laws.eq x y
-      → IsTold laws.cmp peer.rows with_pages (items h) y → IsTaken laws local g x before after → Pages rounds before → Pages rounds after
+      → IsTold laws.cmp peer.rows with_pages (items h) y → IsPageTaken laws local g x before after → Pages rounds before → Pages rounds after
   one_pages with_pages rounds g h (rows_told rs) y before after filled s same told taken p = subst (Pages rounds) (sym taken) p
   one_pages with_pages rounds g h (digests_told ns) y before after filled s same told taken p = subst (Pages rounds) (sym taken) p
   one_pages with_pages rounds g h (page_told c js ps) (page_told d ks qs) before after filled s same (with, is, are, beside) (gaps, nodes, new, kept, taken) p =
@@ -272,9 +272,9 @@ module _ {K V H : Type 0} (laws : Laws K V H) (o : IsTotalOrder laws.cmp) (eqv :
       keeps (Some d) (inr (lacks, inr t)) = subst (λ f. AllByRecursion (Filled 257 0) f.nodes) (sym t) s.nodes
 
   pub stay : (digest_of : K → List ℕ) (asked question : Question K) (rounds : ℕ) (limits : Limits) (reply : List ℕ) (before after : Found K V)
-      (again : Option (Question K)) → IsSteady laws (side peer) root (record { asked = asked; found = before; rounds = rounds; left = limits })
+      (again : Option (Question K)) → IsSteadyCatchUp laws (side peer) root (record { asked = asked; found = before; rounds = rounds; left = limits })
       → SameQuestion laws.cmp encoding asked question → IsReply laws.cmp laws.bytes_of encoding values digest_of n peer.rows peer.tree question reply
-      → HasTaken laws n encoding values local asked reply before after again → StaySteady rounds again after
+      → HasTakenReply laws n encoding values local asked reply before after again → StaySteady rounds again after
   stay digest_of (Root a) (Root b) rounds limits reply before after again s same (settings, sent) (count, digest, read, taken, none) =
       let is = root_tells laws o eqv encoding values tell n local peer root sides small count (length peer.rows) digest
       (whole_digest (whole_item peer.tree.format laws.bytes_of tree)) (sym read ∙ sent) in
@@ -370,7 +370,7 @@ module _ {K V H : Type 0} (laws : Laws K V H) (o : IsTotalOrder laws.cmp) (eqv :
 
     -- so it fails only when out of memory or at a limit
     pub memory_alone : (digest_of : K → List ℕ) (before : Underway K V) (question : Question K) (reply : List ℕ) (error : SessionError)
-        → IsSteady laws (side peer) root before → SameQuestion laws.cmp encoding before.asked question
+        → IsSteadyCatchUp laws (side peer) root before → SameQuestion laws.cmp encoding before.asked question
         → IsReply laws.cmp laws.bytes_of encoding values digest_of n peer.rows peer.tree question reply
         → IsStopped laws n encoding values is_key is_value local before reply error → IsMemoryOrLimit error
     memory_alone digest_of before question reply error s same is = by error
@@ -378,7 +378,7 @@ module _ {K V H : Type 0} (laws : Laws K V H) (o : IsTotalOrder laws.cmp) (eqv :
         fit : IsFit laws.cmp is_key is_value encoding values n before.asked reply
         fit = can_be_taken digest_of before.asked question before.rounds reply s.some s.asked same is
 
-        twice : (found : Found K V) → HasTaken laws n encoding values local before.asked reply before.found found None → HaveTwins laws.cmp found.rows → ⊥
+        twice : (found : Found K V) → HasTakenReply laws n encoding values local before.asked reply before.found found None → HaveTwins laws.cmp found.rows → ⊥
         twice found taken twins =
             let (k, many) = twins_twice found.rows twins.0.0 twins in
             absurd (omega (arith, many, (stay digest_of before.asked question before.rounds before.left reply before.found found None s same is taken).steady.once k))

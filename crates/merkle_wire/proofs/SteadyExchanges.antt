@@ -17,13 +17,13 @@ use Rattle.merkle_tree_theory.specs.Tree.{Tree}
 use Rattle.merkle_tree_theory.specs.declared.page_format.PageFormat.{PageFormat}
 use Rattle.merkle_wire.specs.Asking.{AsksForSome}
 use Rattle.merkle_wire.specs.Cost.{keys_taken, nodes_taken, pages_taken}
-use Rattle.merkle_wire.specs.Faults.{IsOfOthers, IsUnread}
+use Rattle.merkle_wire.specs.Faults.{AreOtherSettings, IsUnread}
 use Rattle.merkle_wire.specs.Found.{nothing}
 use Rattle.merkle_wire.specs.Next.{IsNext, IsStopped}
 use Rattle.merkle_wire.specs.Questions.{question_bytes}
 use Rattle.merkle_wire.specs.Replies.{IsReply}
 use Rattle.merkle_wire.specs.Sessions.{Covers, CoversNext}
-use Rattle.merkle_wire.specs.Steady.{AsksForPages, CanBeTold, GoesDown, HasKeysNext, HasKeysOfSides, IsFilled, IsMemoryOrLimit, IsSteady, KeepsKeys, LeavesLess, StaysSteady, SteadyNext, WhileSteady, times_asked, times_found}
+use Rattle.merkle_wire.specs.Steady.{AsksForPages, CanBeTold, GoesDown, HasKeysNext, HasKeysOfSides, IsFilled, IsMemoryOrLimit, IsSteadyCatchUp, KeepsKeys, LeavesLess, StaysSteady, SteadyNext, WhileSteady, times_asked, times_found}
 use Rattle.merkle_wire.specs.Underway.{Underway}
 use Rattle.merkle_wire.specs.declared.answering.AnswerError.{AnswerError}
 use Rattle.merkle_wire.specs.declared.answering.AnswerError.TheVariants as answer
@@ -86,7 +86,7 @@ module _ {K V H : Type 0} (laws : Laws K V H) (o : IsTotalOrder laws.cmp) (eqv :
     -- what comes next is steady
     stays_steady : (next : Next K V) → IsNext laws n encoding values local before reply next → WhileSteady laws n (side met) (λ root. SteadyNext laws (side met) root next) before
     stays_steady next (found, again, taken, goes) root of_peer small steady =
-        let here = subst (λ s. IsSteady laws s root before) (sym same) steady in
+        let here = subst (λ s. IsSteadyCatchUp laws s root before) (sym same) steady in
         let t = stay laws o eqv encoding values tell n local peer root (sides root of_peer small)
         (lengths small) digest_of before.asked question before.rounds before.left reply before.found found again here alike replies taken in
         subst (λ s. SteadyNext laws s root next) same (next_steady laws (side peer) root encoding again before.rounds found next t.fit t.steady goes)
@@ -96,7 +96,7 @@ module _ {K V H : Type 0} (laws : Laws K V H) (o : IsTotalOrder laws.cmp) (eqv :
     goes_on_less next comes root of_peer small steady =
         subst (λ s. LeavesLess laws s root before next) same
         (leaves_less laws o eqv encoding values tell n local peer root (sides root of_peer small) (lengths small) digest_of before question reply next
-        (subst (λ s. IsSteady laws s root before) (sym same) steady) alike replies comes)
+        (subst (λ s. IsSteadyCatchUp laws s root before) (sym same) steady) alike replies comes)
 
     -- and has keys of the two sides alone
     stays_at_keys : (next : Next K V) → IsNext laws n encoding values local before reply next → HasKeysOfSides laws local (side met) before
@@ -113,7 +113,7 @@ module _ {K V H : Type 0} (laws : Laws K V H) (o : IsTotalOrder laws.cmp) (eqv :
     stops_for_memory is_key is_value error stopped root of_peer small steady told =
         memory_alone laws o eqv encoding values tell n local peer root (sides root of_peer small) (lengths small) is_key is_value
         (subst (CanBeTold laws is_key is_value) (sym same) told) digest_of before question reply error
-        (subst (λ s. IsSteady laws s root before) (sym same) steady) alike replies stopped
+        (subst (λ s. IsSteadyCatchUp laws s root before) (sym same) steady) alike replies stopped
 
     -- and what it tells of pages is paid for
     pub exchanged_pays : (one_digest : (format : PageFormat) (t u : Tree K (List ℕ)) → SamePages laws.cmp t u
@@ -126,7 +126,7 @@ module _ {K V H : Type 0} (laws : Laws K V H) (o : IsTotalOrder laws.cmp) (eqv :
         subst (λ s. PayFor laws s root is_there (pages_taken laws n encoding values local before.asked reply before.found takes.0 takes.1 takes.2)
         (nodes_taken laws n encoding values local before.asked reply before.found takes.0 takes.1 takes.2) before next) same
         (exchange_pays laws o eqv encoding values tell n local peer root (sides root of_peer small) (lengths small) one_digest is_there tells digest_of before question reply next
-        (subst (λ s. IsSteady laws s root before) (sym same) steady) alike replies takes)
+        (subst (λ s. IsSteadyCatchUp laws s root before) (sym same) steady) alike replies takes)
 
     -- so are the values that it tells at keys
     pub exchanged_pays_for_keys : (next : Next K V) (takes : IsNext laws n encoding values local before reply next) (root : Tree K (List ℕ))
@@ -151,7 +151,7 @@ module _ {K V H : Type 0} (laws : Laws K V H) (o : IsTotalOrder laws.cmp) (eqv :
     }
 
 -- a message has no reply when out of memory, where it asks something by the peer's settings
-pub unanswered_for_memory : (error : AnswerError) → (IsUnread error → ⊥) → (IsOfOthers error → ⊥) → error ≡ answer.Memory
+pub unanswered_for_memory : (error : AnswerError) → (IsUnread error → ⊥) → (AreOtherSettings error → ⊥) → error ≡ answer.Memory
 unanswered_for_memory answer.Memory unread others = refl
 unanswered_for_memory (answer.Malformed e) unread others = absurd (unread tt)
 unanswered_for_memory answer.OtherSettings unread others = absurd (others tt)
@@ -159,7 +159,7 @@ unanswered_for_memory answer.OtherSettings unread others = absurd (others tt)
 module _ {K V H : Type 0} (laws : Laws K V H) where
   -- a catch-up that begins is steady
   pub begun_steady : (peer : Side K V H) (root : Tree K (List ℕ)) (begun : Underway K V) (settings : Settings K) → begun.asked ≡ Root settings → begun.found ≡ nothing
-      → begun.rounds ≡ 0 → IsSteady laws peer root begun
+      → begun.rounds ≡ 0 → IsSteadyCatchUp laws peer root begun
   begun_steady peer root begun settings asked found zero = record {
     some = subst AsksForSome (sym asked) tt;
     asked = subst (AsksForPages laws peer root begun.rounds) (sym asked) zero;
@@ -172,6 +172,6 @@ module _ {K V H : Type 0} (laws : Laws K V H) where
   pub while_steady_since : (n : ℕ) (peer b : Contents K V H) → b.rows ≡ peer.rows → SameSettings peer.tree b.tree
       → IsCanonicalRoot (λ k. level_of (laws.key_digest peer.tree.hasher k) peer.tree.base) peer.tree.root
       → SameMap laws.cmp (λ d e. d ≡ e) (map_of peer.tree) (tree_map laws (side peer)) → HasSmallMap laws n (side peer) → (before : Underway K V) (P : Side K V H → Tree K (List ℕ) → Type 0)
-      → WhileSteady laws n (side b) (P (side b)) before → IsSteady laws (side peer) peer.tree.root before → P (side peer) peer.tree.root
+      → WhileSteady laws n (side b) (P (side b)) before → IsSteadyCatchUp laws (side peer) peer.tree.root before → P (side peer) peer.tree.root
   while_steady_since n peer b rows settings canonical digested small before P holds steady =
       subst (λ s. WhileSteady laws n s (P s) before) (same_side peer b rows settings) holds peer.tree.root (canonical, digested) small steady

@@ -15,7 +15,7 @@ use Rattle.merkle_tree_theory.specs.declared.page_format.PageFormat.{PageFormat}
 use Rattle.merkle_wire.specs.Cost.{keys_taken, keys_told, lacked_of_tree, nodes_taken, nodes_told, pages_taken, pages_told, told_in}
 use Rattle.merkle_wire.specs.Next.{IsNext, IsStopped}
 use Rattle.merkle_wire.specs.Sessions.{IsPeerReply, IsExchange}
-use Rattle.merkle_wire.specs.Steady.{AreExchangesTo, CanBeTold, IsBegun, IsMemoryOrLimit, IsSteady, LeavesLess, SteadyNext, left_by, left_for, left_of, total}
+use Rattle.merkle_wire.specs.Steady.{AreExchangesTo, CanBeTold, IsBegun, IsMemoryOrLimit, IsSteadyCatchUp, LeavesLess, SteadyNext, left_by, left_for, left_of, total}
 use Rattle.merkle_wire.specs.Taking.{new_keys}
 use Rattle.merkle_wire.specs.Underway.{Underway}
 use Rattle.merkle_wire.specs.declared.catching_up.Next.{Next}
@@ -35,7 +35,7 @@ module _ {K V H : Type 0} (laws : Laws K V H) (o : IsTotalOrder laws.cmp) (eqv :
     (encoding : K → List ℕ) (values : V → List ℕ) (tell : Tell laws encoding values) (n : ℕ) (local peer : Side K V H) (up : IsMap laws.cmp local.rows)
     (up_peer : IsMap laws.cmp peer.rows) (small : HasSmallMap laws n peer) where
   module _ (before : Underway K V) (reply : List ℕ) (a : IsPeerReply laws n encoding values local peer before reply) (root : Tree K (List ℕ))
-      (of_peer : IsTreeOf laws.cmp (laws.key_digest peer.hasher) peer.base root (tree_map laws peer)) (steady : IsSteady laws peer root before) where
+      (of_peer : IsTreeOf laws.cmp (laws.key_digest peer.hasher) peer.base root (tree_map laws peer)) (steady : IsSteadyCatchUp laws peer root before) where
     abbrev now : Contents K V H
     now = record { rows = peer.rows; tree = a.tree }
 
@@ -80,7 +80,7 @@ module _ {K V H : Type 0} (laws : Laws K V H) (o : IsTotalOrder laws.cmp) (eqv :
 
   -- so a session has no more exchanges than were to be asked for at first
   chain_short : (root : Tree K (List ℕ)) → IsTreeOf laws.cmp (laws.key_digest peer.hasher) peer.base root (tree_map laws peer) → (before last : Underway K V) (more : List (Underway K V))
-      → AreExchangesTo laws n encoding values local peer before more last → IsSteady laws peer root before → length more + left_for laws peer root last ≤ left_for laws peer root before
+      → AreExchangesTo laws n encoding values local peer before more last → IsSteadyCatchUp laws peer root before → length more + left_for laws peer root last ≤ left_for laws peer root before
   chain_short root of_peer before last [] is steady = omega (arith, ap (left_for laws peer root) is)
   chain_short root of_peer before last (next ∷ more) (message, e, others) steady =
       let after = answered_steady before e.reply e.answer root of_peer steady (Ask next message) e.takes in
@@ -108,8 +108,8 @@ module _ {K V H : Type 0} (laws : Laws K V H) (o : IsTotalOrder laws.cmp) (eqv :
   -- and a catch-up that is steady stays so
   chain_steady : (root : Tree K (List ℕ)) → IsTreeOf laws.cmp (laws.key_digest peer.hasher) peer.base root (tree_map laws peer)
       → (before last : Underway K V) (more : List (Underway K V)) → AreExchangesTo laws n encoding values local peer before more last
-      → IsSteady laws peer root before → IsSteady laws peer root last
-  chain_steady root of_peer before last [] is steady = subst (IsSteady laws peer root) is steady
+      → IsSteadyCatchUp laws peer root before → IsSteadyCatchUp laws peer root last
+  chain_steady root of_peer before last [] is steady = subst (IsSteadyCatchUp laws peer root) is steady
   chain_steady root of_peer before last (next ∷ more) (message, e, others) steady =
       chain_steady root of_peer next last more others (answered_steady before e.reply e.answer root of_peer steady (Ask next message) e.takes)
 
@@ -138,7 +138,7 @@ module _ {K V H : Type 0} (laws : Laws K V H) (o : IsTotalOrder laws.cmp) (eqv :
     abbrev nodes_in : (before : Underway K V) (more : List (Underway K V)) (last : Underway K V) → AreExchangesTo laws n encoding values local peer before more last → ℕ
     nodes_in = told_in laws n encoding values local peer (nodes_told laws n encoding values local peer)
 
-    chain_pays : (before last : Underway K V) (more : List (Underway K V)) (exchanges : AreExchangesTo laws n encoding values local peer before more last) → IsSteady laws peer root before
+    chain_pays : (before last : Underway K V) (more : List (Underway K V)) (exchanges : AreExchangesTo laws n encoding values local peer before more last) → IsSteadyCatchUp laws peer root before
         → (pages_in before more last exchanges + pages_left last ≤ pages_left before)
         × (nodes_in before more last exchanges + nodes_left last ≤ pages_in before more last exchanges + nodes_left before)
     chain_pays before last [] is steady = (omega (arith, ap pages_left is), omega (arith, ap nodes_left is))
@@ -177,7 +177,7 @@ module _ {K V H : Type 0} (laws : Laws K V H) (o : IsTotalOrder laws.cmp) (eqv :
     IsLimited u = Wants laws local peer u.found × AsksLacked laws local peer u.asked
 
     chain_keys : (before last : Underway K V) (more : List (Underway K V)) (exchanges : AreExchangesTo laws n encoding values local peer before more last)
-        → IsSteady laws peer root before → IsLimited before
+        → IsSteadyCatchUp laws peer root before → IsLimited before
         → (keys_in before more last exchanges + left last ≤ left before) × IsLimited last
     chain_keys before last [] is steady limited = (omega (arith, ap left is), subst IsLimited is limited)
     chain_keys before last (next ∷ more) (message, e, others) steady limited =

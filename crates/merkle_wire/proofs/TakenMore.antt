@@ -11,7 +11,7 @@ use Rattle.merkle_wire.specs.Found.{Found}
 use Rattle.merkle_wire.specs.Gaps.{owned_gap}
 use Rattle.merkle_wire.specs.Outlines.{Outline}
 use Rattle.merkle_wire.specs.Replies.{Part}
-use Rattle.merkle_wire.specs.Taking.{IsTaken, AreTaken, IsBehind, AreBehind, has_digest, has_row, new_rows, new_keys}
+use Rattle.merkle_wire.specs.Taking.{IsPageTaken, AreTaken, IsBehind, AreBehind, has_digest, has_row, new_rows, new_keys}
 use Rattle.merkle_wire.specs.declared.gaps.OwnedGap.{OwnedGap}
 
 module _ {K V : Type 0} (cmp : K → K → Ordering) where
@@ -22,8 +22,8 @@ module _ {K V : Type 0} (cmp : K → K → Ordering) where
 
 module _ {K V H : Type 0} (laws : Laws K V H) (local : Side K V H) where
   pub taken-more : (ts : List (OwnedGap K × Outline K V)) (t : OwnedGap K × Outline K V) (before mid after : Found K V)
-      → AreTaken laws local ts before mid → IsTaken laws local (owned_gap t.0) t.1 mid after → AreTaken laws local (ts ++ t ∷ []) before after
-  taken-more [] t before mid after e h = (after, subst (λ f. IsTaken laws local (owned_gap t.0) t.1 f after) e h, refl)
+      → AreTaken laws local ts before mid → IsPageTaken laws local (owned_gap t.0) t.1 mid after → AreTaken laws local (ts ++ t ∷ []) before after
+  taken-more [] t before mid after e h = (after, subst (λ f. IsPageTaken laws local (owned_gap t.0) t.1 f after) e h, refl)
   taken-more (s ∷ ts) t before mid after (first, i, rest) h = (first, i, taken-more ts t first mid after rest h)
 
   -- rows that are new are so among others

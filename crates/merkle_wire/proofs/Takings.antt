@@ -3,17 +3,17 @@ use Rattle.std.proofs.Common.{ℕ, List, Option, subst}
 use Rattle.merkle_replica.specs.Contents.{Side}
 use Rattle.merkle_replica.specs.Laws.{Laws}
 use Rattle.merkle_wire.specs.Found.{Found}
-use Rattle.merkle_wire.specs.Reads.{IsRead, outlines_read}
+use Rattle.merkle_wire.specs.Reads.{IsReplyRead, outlines_read}
 use Rattle.merkle_wire.specs.Takes.{IsReplyTaken}
 use Rattle.merkle_wire.specs.Taking.{AddsRows}
-use Rattle.merkle_wire.specs.Underway.{HasTaken}
+use Rattle.merkle_wire.specs.Underway.{HasTakenReply}
 use Rattle.merkle_wire.specs.declared.question.Question.{Question}
 use Rattle.merkle_wire.specs.declared.question.Question.TheVariants.{Root, Outlines, Nodes, RowsAt, RowsIn}
 use Rattle.merkle_wire.specs.declared.replies.Reply.{Reply}
 
 module _ {K V H : Type 0} (laws : Laws K V H) (n : ℕ) (encoding : K → List ℕ) (values : V → List ℕ) (local : Side K V H) where
   pub has_taken : (asked : Question K) (reply : List ℕ) (read : Reply K V) (again : Option (Question K)) (before after : Found K V)
-      → IsRead laws.cmp encoding values n asked reply read again → IsReplyTaken laws local read before after → HasTaken laws n encoding values local asked reply before after again
+      → IsReplyRead laws.cmp encoding values n asked reply read again → IsReplyTaken laws local read before after → HasTakenReply laws n encoding values local asked reply before after again
   has_taken (Root settings) reply read again before after (count, digest, r, is, none) t = (count, digest, is, subst (λ x. IsReplyTaken laws local x before after) r t, none)
   has_taken (Outlines most gaps) reply read again before after (told, left, r, are, more) t =
       (left, (outlines_read told.items, are.0, are.1, are.2, are.3, subst (λ x. IsReplyTaken laws local x before after) r t), more)

@@ -18,7 +18,7 @@ use Rattle.merkle_wire.specs.Outlines.{Outline, rows_told, digests_told, page_to
 use Rattle.merkle_wire.specs.Replies.{Part}
 use Rattle.merkle_wire.specs.RowsAt.{AreRowsAt}
 use Rattle.merkle_wire.specs.Steady.{times_at, times_found, times_in, times_over, total}
-use Rattle.merkle_wire.specs.Taking.{AddsKeys, AddsRows, AreBehind, AreTaken, IsBehind, IsRootTaken, IsTaken, has_digest, has_row, new_keys, new_rows, value_row}
+use Rattle.merkle_wire.specs.Taking.{AddsKeys, AddsRows, AreBehind, AreTaken, IsBehind, IsRootTaken, IsPageTaken, has_digest, has_row, new_keys, new_rows, value_row}
 use Rattle.merkle_wire.specs.declared.gaps.OwnedGap.{OwnedGap}
 use Rattle.merkle_wire.specs.declared.wanted.Wanted.{Wanted}
 use Rattle.merkle_wire.proofs.SameNodes.{keys_over-same}
@@ -94,7 +94,7 @@ module _ {K V H : Type 0} (laws : Laws K V H) (o : IsTotalOrder laws.cmp) (local
   own_times g h keys (own ∷ other ∷ others) s are one = absurd one
 
   one_times : (with_pages : Bool) (g h : Gap K) (x y : Outline K V) (before after : Found K V) → SameGap laws.cmp g h → SameOutline laws.cmp laws.eq x y
-      → IsTold laws.cmp peer.rows with_pages (outline_over peer.format laws.bytes_of laws.cmp tree h) y → LiesIn laws.cmp n g x → IsTaken laws local g x before after
+      → IsTold laws.cmp peer.rows with_pages (outline_over peer.format laws.bytes_of laws.cmp tree h) y → LiesIn laws.cmp n g x → IsPageTaken laws local g x before after
       → found after ≤ found before + times_about with_pages g
   one_times true g h (rows_told rs) y before after s same told lies taken =
       omega (arith, rows_added before after rs taken, total-mapped at (λ r. r.0) rs, ascend_times laws.cmp o k g (map (λ r. r.0) rs) lies)

@@ -9,7 +9,7 @@ use Rattle.merkle_wire.specs.Found.{Found}
 use Rattle.merkle_wire.specs.Limits.{Allows, IsAbove, IsLeftAfter, IsOverRows, no_limits}
 use Rattle.merkle_wire.specs.Next.{HasLeft, IsCame, IsStopped, IsUnlimited, StaysWithin}
 use Rattle.merkle_wire.specs.Steady.{IsMemoryOrLimit}
-use Rattle.merkle_wire.specs.Underway.{Underway, HasTaken}
+use Rattle.merkle_wire.specs.Underway.{Underway, HasTakenReply}
 use Rattle.merkle_wire.specs.declared.catching_up.Next.{Next}
 use Rattle.merkle_wire.specs.declared.catching_up.Next.TheVariants.{Ask, Came}
 use Rattle.merkle_wire.specs.declared.limits.Limit.TheVariants as limit
@@ -25,7 +25,7 @@ module _ {K V H : Type 0} (laws : Laws K V H) (n : ℕ) (encoding : K → List �
   Stopped = IsStopped laws n encoding values is_key is_value local before reply
 
   -- rows that are too many stop it
-  rows_stop : (found : Found K V) (again : Option (Question K)) (error : SessionError) → HasTaken laws n encoding values local before.asked reply before.found found again
+  rows_stop : (found : Found K V) (again : Option (Question K)) (error : SessionError) → HasTakenReply laws n encoding values local before.asked reply before.found found again
       → IsOverRows (length found.rows) before.left error → Stopped error
   rows_stop found again (Limit limit.Rows) taken over = (found, again, taken, over)
   rows_stop found again (Limit limit.Replies) taken over = absurd over
@@ -59,7 +59,7 @@ module _ {K V H : Type 0} (laws : Laws K V H) (n : ℕ) (encoding : K → List �
   -- rows that are too many, by what is left of the limits after the reply, stop the side that is the same
   pub over_stops : (local was : Side K V H) (before inside : Underway K V) (reply : List ℕ) (found : Found K V) (again : Option (Question K)) (left : Limits) (rows : ℕ)
       (error : SessionError) → was ≡ local → inside ≡ before
-      → HasTaken laws n encoding values was inside.asked reply inside.found found again → left.rows ≡ inside.left.rows → rows ≡ length found.rows
+      → HasTakenReply laws n encoding values was inside.asked reply inside.found found again → left.rows ≡ inside.left.rows → rows ≡ length found.rows
       → IsOverRows rows left error → IsStopped laws n encoding values is_key is_value local before reply error
   over_stops local was before inside reply found again left rows error l s taken same count over =
       subst (λ u. IsStopped laws n encoding values is_key is_value local u reply error) s

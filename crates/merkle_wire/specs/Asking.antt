@@ -24,8 +24,8 @@ module _ {K : Type 0} where
 
 module _ {K V : Type 0} where
   -- nothing is to be asked for
-  abbrev pub IsAtEnd : Found K V → Type 0
-  IsAtEnd f = (f.below ≡ []) × (f.nodes ≡ []) × (f.wanted ≡ []) × (f.whole ≡ [])
+  abbrev pub AsksNothingMore : Found K V → Type 0
+  AsksNothingMore f = (f.below ≡ []) × (f.nodes ≡ []) × (f.wanted ≡ []) × (f.whole ≡ [])
 
   -- the question asks for a part of what is found, which is no longer among it
   abbrev pub IsTakenFrom : Question K → Found K V → Found K V → Type 0
@@ -42,5 +42,5 @@ module _ {K V : Type 0} where
   -- what is asked next is something, taken from what is found, or from that with all rows of the pages below; it is nothing where nothing is to be
   -- asked for
   abbrev pub IsAskedOf : Option (Question K) → Found K V → Found K V → Type 0
-  IsAskedOf None before after = IsAtEnd after × (after ≡ before)
+  IsAskedOf None before after = AsksNothingMore after × (after ≡ before)
   IsAskedOf (Some question) before after = AsksForSome question × (IsTakenFrom question before after ⊎ IsTakenFrom question (all_whole before) after)

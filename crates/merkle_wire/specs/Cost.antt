@@ -6,18 +6,18 @@ use Rattle.key_order.specs.Map.{IsMap}
 use Rattle.merkle_replica.specs.Contents.{Side, tree_map}
 use Rattle.merkle_replica.specs.Faithful.{HasSmallMap}
 use Rattle.merkle_replica.specs.Laws.{Laws}
+use Rattle.merkle_replica.specs.Missing.{own_tree}
 use Rattle.merkle_tree_theory.specs.Gap.{Gap, everywhere, is_in_gap, part_before, part_behind}
 use Rattle.merkle_tree_theory.specs.Lookup.{page_over}
 use Rattle.merkle_tree_theory.specs.Page.{pairs}
 use Rattle.merkle_tree_theory.specs.Stream.{page_digest}
 use Rattle.merkle_tree_theory.specs.Tree.{Tree, page, Row, high, node, Held, nothing, below}
-use Rattle.merkle_tree_theory.specs.TreeOf.{defined_tree}
 use Rattle.merkle_tree_theory.specs.declared.page_format.PageFormat.{PageFormat}
 use Rattle.merkle_wire.specs.Found.{Found}
 use Rattle.merkle_wire.specs.Sessions.{IsExchange}
 use Rattle.merkle_wire.specs.Steady.{AreExchangesTo, IsBegun}
 use Rattle.merkle_wire.specs.Taking.{HasPageAt, new_keys}
-use Rattle.merkle_wire.specs.Underway.{HasTaken, Underway}
+use Rattle.merkle_wire.specs.Underway.{HasTakenReply, Underway}
 use Rattle.merkle_wire.specs.declared.catching_up.Next.{Next}
 use Rattle.merkle_wire.specs.declared.catching_up.Next.TheVariants.{Ask}
 use Rattle.merkle_wire.specs.declared.question.Question.{Question}
@@ -50,10 +50,6 @@ lie_in cmp g [] = true
 lie_in cmp g (p ∷ ps) = is_in_gap cmp p.0 g && lie_in cmp g ps
 
 module _ {K V H : Type 0} (laws : Laws K V H) (local : Side K V H) where
-  -- the tree of a side's map
-  abbrev pub own_tree : Tree K (List ℕ)
-  own_tree = defined_tree (laws.key_digest local.hasher) local.base (tree_map laws local)
-
   -- whether a page is there, has keys of the gap alone, and has the digest
   abbrev pub is_page_at : Gap K → List ℕ → Option (Tree K (List ℕ)) → Bool
   is_page_at g d None = false
@@ -61,11 +57,12 @@ module _ {K V H : Type 0} (laws : Laws K V H) (local : Side K V H) where
 
   -- whether the side's own page that fills the gap has the digest
   abbrev pub has_page_at : Gap K → List ℕ → Bool
-  has_page_at g d = is_page_at g d (page_over laws.cmp g own_tree)
+  has_page_at g d = is_page_at g d (page_over laws.cmp g (own_tree laws local))
 
 module _ {K V H : Type 0} (laws : Laws K V H) (n : ℕ) (encoding : K → List ℕ) (values : V → List ℕ) (local : Side K V H) where
   -- how many entries that were taken of a reply tell pages with those below them
-  abbrev pub pages_taken : (asked : Question K) (reply : List ℕ) (before after : Found K V) (again : Option (Question K)) → HasTaken laws n encoding values local asked reply before after again → ℕ
+  abbrev pub pages_taken : (asked : Question K) (reply : List ℕ) (before after : Found K V) (again : Option (Question K))
+      → HasTakenReply laws n encoding values local asked reply before after again → ℕ
   pages_taken (Root settings) reply before after again taken = 0
   pages_taken (Outlines most gaps) reply before after again (left, has, asks) = length has.0
   pages_taken (Nodes most gaps) reply before after again taken = 0
@@ -73,7 +70,8 @@ module _ {K V H : Type 0} (laws : Laws K V H) (n : ℕ) (encoding : K → List �
   pages_taken (RowsIn gaps) reply before after again taken = 0
 
   -- how many tell the nodes of pages alone
-  abbrev pub nodes_taken : (asked : Question K) (reply : List ℕ) (before after : Found K V) (again : Option (Question K)) → HasTaken laws n encoding values local asked reply before after again → ℕ
+  abbrev pub nodes_taken : (asked : Question K) (reply : List ℕ) (before after : Found K V) (again : Option (Question K))
+      → HasTakenReply laws n encoding values local asked reply before after again → ℕ
   nodes_taken (Root settings) reply before after again taken = 0
   nodes_taken (Outlines most gaps) reply before after again taken = 0
   nodes_taken (Nodes most gaps) reply before after again (left, has, asks) = length has.0
@@ -81,7 +79,7 @@ module _ {K V H : Type 0} (laws : Laws K V H) (n : ℕ) (encoding : K → List �
   nodes_taken (RowsIn gaps) reply before after again taken = 0
 
   -- how many tell the value at a key, where the peer has one
-  abbrev pub keys_taken : (asked : Question K) (reply : List ℕ) (before after : Found K V) (again : Option (Question K)) → HasTaken laws n encoding values local asked reply before after again → ℕ
+  abbrev pub keys_taken : (asked : Question K) (reply : List ℕ) (before after : Found K V) (again : Option (Question K)) → HasTakenReply laws n encoding values local asked reply before after again → ℕ
   keys_taken (Root settings) reply before after again taken = 0
   keys_taken (Outlines most gaps) reply before after again taken = 0
   keys_taken (Nodes most gaps) reply before after again taken = 0

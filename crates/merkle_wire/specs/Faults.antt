@@ -35,10 +35,10 @@ IsUnread (answer.Malformed error) = ⊤
 IsUnread answer.OtherSettings = ⊥
 
 -- the asking side has another hash key or other tree settings
-abbrev pub IsOfOthers : AnswerError → Type 0
-IsOfOthers answer.Memory = ⊥
-IsOfOthers (answer.Malformed error) = ⊥
-IsOfOthers answer.OtherSettings = ⊤
+abbrev pub AreOtherSettings : AnswerError → Type 0
+AreOtherSettings answer.Memory = ⊥
+AreOtherSettings (answer.Malformed error) = ⊥
+AreOtherSettings answer.OtherSettings = ⊤
 
 -- this holds of an error of the message; of one of the tree or the rows nothing is said
 abbrev pub OfMessage : {E : Type 0} → (AnswerError → Type 0) → KeptError E → Type 0

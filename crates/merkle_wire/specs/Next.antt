@@ -7,14 +7,14 @@ use Rattle.key_order.specs.Map.{IsMap}
 use Rattle.key_order.specs.Order.{Same}
 use Rattle.merkle_replica.specs.Contents.{Contents, Side, side}
 use Rattle.merkle_replica.specs.Laws.{Laws}
-use Rattle.merkle_wire.specs.Asking.{IsAskedOf, IsAtEnd}
+use Rattle.merkle_wire.specs.Asking.{IsAskedOf, AsksNothingMore}
 use Rattle.merkle_wire.specs.Coming.{IsAskedFor}
 use Rattle.merkle_wire.specs.Fit.{IsFit}
 use Rattle.merkle_wire.specs.Found.{Found}
 use Rattle.merkle_wire.specs.ItsRows.{Digests, ForRowsOf}
 use Rattle.merkle_wire.specs.Limits.{Allows, IsAbove, IsLeftAfter, IsOverLimit, no_limits}
 use Rattle.merkle_wire.specs.Questions.{question_bytes}
-use Rattle.merkle_wire.specs.Underway.{Underway, HasTaken}
+use Rattle.merkle_wire.specs.Underway.{Underway, HasTakenReply}
 use Rattle.merkle_wire.specs.declared.catching_up.Next.{Next}
 use Rattle.merkle_wire.specs.declared.catching_up.Next.TheVariants.{Ask, Came}
 use Rattle.merkle_wire.specs.declared.limits.Limit.TheVariants as limit
@@ -48,7 +48,7 @@ module _ {K V : Type 0} (cmp : K → K → Ordering) where
   abbrev pub IsEnded : ℕ → Found K V → SessionError → Type 0
   IsEnded rounds found Memory = ⊤
   IsEnded rounds found TooManyRounds = (rounds ≡ 256) × (found.below ≢ [])
-  IsEnded rounds found Twice = IsAtEnd found × HaveTwins found.rows
+  IsEnded rounds found Twice = AsksNothingMore found × HaveTwins found.rows
   IsEnded rounds found _ = ⊥
 
 -- a catch-up that asks on has asked in 256 rounds at most
@@ -75,7 +75,7 @@ module _ {K V : Type 0} (cmp : K → K → Ordering) (encoding : K → List ℕ)
   GoesOn rounds found (Ask session message) =
       IsAskedOf (Some session.asked) found session.found × (message.items ≡ question_bytes encoding session.asked)
       × (session.rounds ≡ rounds_with rounds session.asked)
-  GoesOn rounds found (Came rows) = IsAtEnd found × IsCame cmp found.rows (Came rows)
+  GoesOn rounds found (Came rows) = AsksNothingMore found × IsCame cmp found.rows (Came rows)
 
   -- what is left of the question is asked again, or the catch-up goes on
   abbrev pub AsksOrGoesOn : Option (Question K) → ℕ → Found K V → Next K V → Type 0
@@ -86,7 +86,7 @@ module _ {K V H : Type 0} (laws : Laws K V H) (n : ℕ) (encoding : K → List �
   -- the reply is taken, where digests of values have n bytes, and this comes next
   abbrev pub IsNext : Side K V H → Underway K V → List ℕ → Next K V → Type 0
   IsNext local before reply next = (found : Found K V) × (again : Option (Question K))
-      × HasTaken laws n encoding values local before.asked reply before.found found again × AsksOrGoesOn laws.cmp encoding again before.rounds found next
+      × HasTakenReply laws n encoding values local before.asked reply before.found found again × AsksOrGoesOn laws.cmp encoding again before.rounds found next
 
   -- a catch-up of the replica takes it so
   abbrev pub Takes : Contents K V H → Underway K V → List ℕ → Next K V → Type 0
@@ -97,11 +97,11 @@ module _ {K V H : Type 0} (laws : Laws K V H) (n : ℕ) (encoding : K → List �
   abbrev pub IsStopped : (K → Type 0) → (V → Type 0) → Side K V H → Underway K V → List ℕ → SessionError → Type 0
   IsStopped is_key is_value local before reply Memory = ⊤
   IsStopped is_key is_value local before reply TooManyRounds = (before.rounds ≡ 256) × (found : Found K V)
-      × HasTaken laws n encoding values local before.asked reply before.found found None × (found.below ≢ [])
-  IsStopped is_key is_value local before reply Twice = (found : Found K V) × HasTaken laws n encoding values local before.asked reply before.found found None
-      × IsAtEnd found × HaveTwins laws.cmp found.rows
+      × HasTakenReply laws n encoding values local before.asked reply before.found found None × (found.below ≢ [])
+  IsStopped is_key is_value local before reply Twice = (found : Found K V) × HasTakenReply laws n encoding values local before.asked reply before.found found None
+      × AsksNothingMore found × HaveTwins laws.cmp found.rows
   IsStopped is_key is_value local before reply (Limit limit.Rows) = (found : Found K V) × (again : Option (Question K))
-      × HasTaken laws n encoding values local before.asked reply before.found found again × IsAbove (length found.rows) before.left.rows
+      × HasTakenReply laws n encoding values local before.asked reply before.found found again × IsAbove (length found.rows) before.left.rows
   IsStopped is_key is_value local before reply (Limit limit) = IsOverLimit (length reply) before.left (Limit limit)
   IsStopped is_key is_value local before reply _ = ¬ IsFit laws.cmp is_key is_value encoding values n before.asked reply
 

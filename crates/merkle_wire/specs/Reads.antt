@@ -119,16 +119,16 @@ module _ {K V : Type 0} (cmp : K → K → Ordering) (encoding : K → List ℕ)
       × (gaps ≡ map (λ t. t.0) told ++ left) × AllByRecursion (λ t. LiesIn cmp n (owned_gap t.0) t.1) told
 
   -- a reply to a question was read, after which this question is to be asked again, or none
-  abbrev pub IsRead : ℕ → Question K → List ℕ → Reply K V → Option (Question K) → Type 0
-  IsRead n (ask.Root settings) reply read again = (count : ℕ) × (digest : Option (List ℕ))
+  abbrev pub IsReplyRead : ℕ → Question K → List ℕ → Reply K V → Option (Question K) → Type 0
+  IsReplyRead n (ask.Root settings) reply read again = (count : ℕ) × (digest : Option (List ℕ))
       × (read ≡ came.Root count digest) × (reply ≡ root_reply_bytes count digest) × (again ≡ None)
-  IsRead n (ask.Outlines most gaps) reply read again = (told : Vec (OwnedGap K × OutlineRead K V)) × (left : List (OwnedGap K))
+  IsReplyRead n (ask.Outlines most gaps) reply read again = (told : Vec (OwnedGap K × OutlineRead K V)) × (left : List (OwnedGap K))
       × (read ≡ came.Outlines told) × ReadsOutlines n outlines_kind gaps.items reply (outlines_read told.items) left × AsksAgain (ask.Outlines most) left again
-  IsRead n (ask.Nodes most gaps) reply read again = (told : Vec (OwnedGap K × OutlineRead K V)) × (left : List (OwnedGap K))
+  IsReplyRead n (ask.Nodes most gaps) reply read again = (told : Vec (OwnedGap K × OutlineRead K V)) × (left : List (OwnedGap K))
       × (read ≡ came.Outlines told) × ReadsOutlines n nodes_kind gaps.items reply (outlines_read told.items) left × AsksAgain (ask.Nodes most) left again
-  IsRead n (ask.RowsAt keys) reply read again = (rows : Vec (K × V)) × (left : List (Wanted K))
+  IsReplyRead n (ask.RowsAt keys) reply read again = (rows : Vec (K × V)) × (left : List (Wanted K))
       × (read ≡ came.Rows rows) × ReadsValues values keys.items reply rows.items left × AsksAgain ask.RowsAt left again
-  IsRead n (ask.RowsIn gaps) reply read again = (rows : Vec (K × V)) × (left : List (OwnedGap K))
+  IsReplyRead n (ask.RowsIn gaps) reply read again = (rows : Vec (K × V)) × (left : List (OwnedGap K))
       × (read ≡ came.Rows rows) × ReadsParts gaps.items reply rows.items left × AsksAgain ask.RowsIn left again
 
 module _ {K : Type 0} (cmp : K → K → Ordering) (is_key : K → Type 0) (encoding : K → List ℕ) where

@@ -12,7 +12,7 @@ use Rattle.merkle_replica.specs.Laws.{Laws}
 use Rattle.merkle_tree_theory.specs.Gap.{pairs_within}
 use Rattle.merkle_tree_theory.specs.Outline.{Item, of_node, of_page, outline_over, whole_item}
 use Rattle.merkle_tree_theory.specs.State.{State}
-use Rattle.merkle_wire.specs.Faults.{IsOfOthers}
+use Rattle.merkle_wire.specs.Faults.{AreOtherSettings}
 use Rattle.merkle_wire.specs.Gaps.{owned_gap}
 use Rattle.merkle_wire.specs.Messages.{front}
 use Rattle.merkle_wire.specs.Outlines.{Outline, IsTold, outline_bytes}
@@ -197,8 +197,8 @@ module _ {K V H : Type 0} (laws : Laws K V H) (n : ℕ) where
 
   -- a question has no reply for its settings only where it tells others than those of the tree
   abbrev pub RefusesQuestionOfOthers : State K H → Question K → AnswerError → Type 0
-  RefusesQuestionOfOthers tree question error = IsOfOthers error → TellsOthers tree question
+  RefusesQuestionOfOthers tree question error = AreOtherSettings error → TellsOthers tree question
 
   -- so it is with a message
   abbrev pub RefusesOthers : (K → List ℕ) → State K H → List ℕ → AnswerError → Type 0
-  RefusesOthers encoding tree message error = IsOfOthers error → AsksWithOthers encoding tree message
+  RefusesOthers encoding tree message error = AreOtherSettings error → AsksWithOthers encoding tree message

@@ -18,7 +18,7 @@ use Rattle.merkle_tree_theory.specs.Ranges.{IsPageOf}
 use Rattle.merkle_tree_theory.specs.State.{State}
 use Rattle.merkle_tree_theory.specs.Tree.{Tree}
 use Rattle.merkle_tree_theory.specs.declared.page_format.PageFormat.TheVariants.{V2}
-use Rattle.merkle_wire.specs.Faults.{IsOfOthers}
+use Rattle.merkle_wire.specs.Faults.{AreOtherSettings}
 use Rattle.merkle_wire.specs.Found.{Found, nothing}
 use Rattle.merkle_wire.specs.Gaps.{owned_gap}
 use Rattle.merkle_wire.specs.Next.{IsNext}
@@ -56,13 +56,13 @@ module _ {K V H : Type 0} (laws : Laws K V H) (n : ℕ) (side : Side K V H) wher
 module _ {K V H : Type 0} (laws : Laws K V H) (local peer : Side K V H) where
   -- a message has no reply: for its settings only where the sides are not set alike
   abbrev pub HasNoReply : AnswerError → Type 0
-  HasNoReply error = IsOfOthers error → ¬ AreSetAlike laws local peer
+  HasNoReply error = AreOtherSettings error → ¬ AreSetAlike laws local peer
 
   -- the catch-up ended before it joined
-  abbrev pub IsEarly : MessagesError → Type 0
-  IsEarly (Answer error) = HasNoReply error
-  IsEarly (Session error) = ⊤
-  IsEarly (Join done) = ⊥
+  abbrev pub EndsBeforeJoin : MessagesError → Type 0
+  EndsBeforeJoin (Answer error) = HasNoReply error
+  EndsBeforeJoin (Session error) = ⊤
+  EndsBeforeJoin (Join done) = ⊥
 
   -- local has the keys of the nodes of a page of the peer's tree, with the digests ds of values, and the peer has es there; and the digest of these
   -- digests is equal on both
@@ -132,8 +132,8 @@ module _ {K V H : Type 0} (laws : Laws K V H) (replica peer : Contents K V H) wh
     CatchesUpWhileFaithful joined = IsFaithfulSession laws (side replica) (side peer) → IsCatchUpOf laws (side replica) (side peer) joined after.rows
 
     -- while digests are faithful, the rows are the join of both sides' rows
-    abbrev pub JoinsWhileFaithful : Type 0
-    JoinsWhileFaithful = IsFaithfulSession laws (side replica) (side peer) → IsJoin laws.cmp laws.eq laws.join replica.rows peer.rows after.rows
+    abbrev pub BringsTheJoin : Type 0
+    BringsTheJoin = IsFaithfulSession laws (side replica) (side peer) → IsJoin laws.cmp laws.eq laws.join replica.rows peer.rows after.rows
 
     -- the catch-up ended early, with no row joined or the first ones
     abbrev pub EndsEarly : MessagesError → Type 0
@@ -146,8 +146,8 @@ module _ {K V H : Type 0} (laws : Laws K V H) where
       HasJoined laws (side a) (side b) joined.0 a'.rows × HasJoined laws (side b) (with_rows (side a) a'.rows) joined.1 b'.rows
 
   -- while digests are faithful before each of the two, both hold the join
-  abbrev pub HoldTheJoinWhileFaithful : Contents K V H → Contents K V H → Contents K V H → Contents K V H → Type 0
-  HoldTheJoinWhileFaithful a b a' b' = IsFaithfulSession laws (side a) (side b) → IsFaithfulSession laws (side b) (with_rows (side a) a'.rows)
+  abbrev pub BothHoldTheJoin : Contents K V H → Contents K V H → Contents K V H → Contents K V H → Type 0
+  BothHoldTheJoin a b a' b' = IsFaithfulSession laws (side a) (side b) → IsFaithfulSession laws (side b) (with_rows (side a) a'.rows)
       → HoldTheJoin laws (side a) (side b) a'.rows b'.rows
 
   -- the first of them ended early, or the second

@@ -86,7 +86,7 @@ module _ {K V H : Type 0} (laws : Laws K V H) (peer : Side K V H) (root : Tree K
 
   -- something is asked for, of the peer's pages; the pages that were found are the peer's, on levels that the rounds suffice for; and no key is
   -- asked about or found twice
-  pub record IsSteady (u : Underway K V) : Type 0 where
+  pub record IsSteadyCatchUp (u : Underway K V) : Type 0 where
     pub some : AsksForSome u.asked
     pub asked : AsksForPages u.rounds u.asked
     pub below : AllByRecursion (IsFilled 256 u.rounds) u.found.below
@@ -95,7 +95,7 @@ module _ {K V H : Type 0} (laws : Laws K V H) (peer : Side K V H) (root : Tree K
 
   -- so is the catch-up that comes next, or the rows came
   abbrev pub SteadyNext : Next K V → Type 0
-  SteadyNext (Ask session message) = IsSteady session
+  SteadyNext (Ask session message) = IsSteadyCatchUp session
   SteadyNext (Came rows) = ⊤
 
 -- how many of the rows are in a gap
@@ -171,7 +171,7 @@ module _ {K V H : Type 0} (laws : Laws K V H) (n : ℕ) (peer : Side K V H) wher
   -- where the catch-up is steady by a tree of the peer's map, this holds by the tree
   abbrev pub WhileSteady : (Tree K (List ℕ) → Type 0) → Underway K V → Type 0
   WhileSteady P before = (root : Tree K (List ℕ)) → IsTreeOf laws.cmp (laws.key_digest peer.hasher) peer.base root (tree_map laws peer) → HasSmallMap laws n peer
-      → IsSteady laws peer root before → P root
+      → IsSteadyCatchUp laws peer root before → P root
 
   -- a steady catch-up stays steady in what comes next
   abbrev pub StaysSteady : Underway K V → Next K V → Type 0

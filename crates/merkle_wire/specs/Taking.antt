@@ -103,17 +103,17 @@ module _ {K V H : Type 0} (laws : Laws K V H) (local : Side K V H) where
       (first : List (Gap K)) × (rest : List (Gap K)) × IsNewGap (part_before gap k) page first × AreNewGaps (part_behind gap k) ks pages rest × (new ≡ first ++ rest)
 
   -- what was told of the page over a gap is taken: what the side doesn't have is added to what was found
-  abbrev pub IsTaken : Gap K → Outline K V → Found K V → Found K V → Type 0
-  IsTaken gap (rows_told rows) before after = AddsRows rows before after
-  IsTaken gap (digests_told nodes) before after = AddsKeys nodes before after
-  IsTaken gap (page_told digest keys pages) before after =
+  abbrev pub IsPageTaken : Gap K → Outline K V → Found K V → Found K V → Type 0
+  IsPageTaken gap (rows_told rows) before after = AddsRows rows before after
+  IsPageTaken gap (digests_told nodes) before after = AddsKeys nodes before after
+  IsPageTaken gap (page_told digest keys pages) before after =
       (gaps : List (Gap K)) × (nodes : List (Gap K)) × AreNewGaps gap keys pages gaps × AreNewNodes gap keys digest nodes
       × (after ≡ record before { below = before.below ++ gaps; nodes = before.nodes ++ nodes })
 
   -- so was what was told of the pages over several gaps
   abbrev pub AreTaken : List (OwnedGap K × Outline K V) → Found K V → Found K V → Type 0
   AreTaken [] before after = after ≡ before
-  AreTaken (t ∷ ts) before after = (mid : Found K V) × IsTaken (owned_gap t.0) t.1 before mid × AreTaken ts mid after
+  AreTaken (t ∷ ts) before after = (mid : Found K V) × IsPageTaken (owned_gap t.0) t.1 before mid × AreTaken ts mid after
 
 module _ {K V : Type 0} (cmp : K → K → Ordering) where
   -- the gap after the last of the rows, up to equal keys, where they are not all

@@ -69,8 +69,8 @@ module _ {K V : Type 0} (cmp : K → K → Ordering) (encoding : K → List ℕ)
       × (new.bytes.items ≡ old.bytes.items ++ row_behind encoding values last (key, value)))
 
   -- these are the rows of nodes that are lent, after a key, as bytes, and how many they are
-  abbrev pub AreRowsOf : List (Bor K × Bor (List ℕ)) → List ℕ → ToldRows → Type 0
-  AreRowsOf nodes last told = (found : List (K × V)) × AreRowsAt cmp rows (keys_among (node_pairs nodes)) found
+  abbrev pub AreRowsOfNodes : List (Bor K × Bor (List ℕ)) → List ℕ → ToldRows → Type 0
+  AreRowsOfNodes nodes last told = (found : List (K × V)) × AreRowsAt cmp rows (keys_among (node_pairs nodes)) found
       × (told.count ≡ length found) × (told.bytes.items ≡ rows_bytes encoding values last found)
 
   -- what is told of nodes that are lent is written after a key

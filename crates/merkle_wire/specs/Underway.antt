@@ -53,10 +53,10 @@ module _ {K V H : Type 0} (laws : Laws K V H) (n : ℕ) (encoding : K → List �
       × AddsRows laws local (flat_map (λ t. t.1.rows) told) before after
 
   -- a reply to a question was taken, after which this question is to be asked again, or none
-  abbrev pub HasTaken : Question K → List ℕ → Found K V → Found K V → Option (Question K) → Type 0
-  HasTaken (Root settings) reply before after again = (count : ℕ) × (digest : Option (List ℕ))
+  abbrev pub HasTakenReply : Question K → List ℕ → Found K V → Found K V → Option (Question K) → Type 0
+  HasTakenReply (Root settings) reply before after again = (count : ℕ) × (digest : Option (List ℕ))
       × (reply ≡ (front root_kind ++ count_bytes count) ++ option_bytes (λ d. d) digest) × IsRootTaken laws local digest before after × (again ≡ None)
-  HasTaken (Outlines most gaps) reply before after again = (left : List (OwnedGap K)) × HasOutlines (front outlines_kind) gaps.items reply before after left × AsksAgain (Outlines most) left again
-  HasTaken (Nodes most gaps) reply before after again = (left : List (OwnedGap K)) × HasOutlines (front nodes_kind) gaps.items reply before after left × AsksAgain (Nodes most) left again
-  HasTaken (RowsAt keys) reply before after again = (left : List (Wanted K)) × HasValues keys.items reply before after left × AsksAgain RowsAt left again
-  HasTaken (RowsIn gaps) reply before after again = (left : List (OwnedGap K)) × HasParts gaps.items reply before after left × AsksAgain RowsIn left again
+  HasTakenReply (Outlines most gaps) reply before after again = (left : List (OwnedGap K)) × HasOutlines (front outlines_kind) gaps.items reply before after left × AsksAgain (Outlines most) left again
+  HasTakenReply (Nodes most gaps) reply before after again = (left : List (OwnedGap K)) × HasOutlines (front nodes_kind) gaps.items reply before after left × AsksAgain (Nodes most) left again
+  HasTakenReply (RowsAt keys) reply before after again = (left : List (Wanted K)) × HasValues keys.items reply before after left × AsksAgain RowsAt left again
+  HasTakenReply (RowsIn gaps) reply before after again = (left : List (OwnedGap K)) × HasParts gaps.items reply before after left × AsksAgain RowsIn left again

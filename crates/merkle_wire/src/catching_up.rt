@@ -155,7 +155,7 @@ impl<K: Key + Decode, V: Join + Decode> CatchingUp<K, V> {
 
     /// The same catch-up under these limits, which count from here on.
     ///
-    /// ```rust crates/wire_tests/src/limits.rt
+    /// ```rust crates/merkle_wire_tests/src/limits.rt
     /// let (session, message) = CatchingUp::begin(alloc, &local)?;
     /// let session = session.within(limits);
     /// ```

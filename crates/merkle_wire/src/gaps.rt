@@ -1,6 +1,6 @@
 //! Gaps with keys of their own.
 ghost use Rattle.std.specs.Prelude.{◌≡◌, IfOk};
-ghost use Rattle.merkle_search_tree.specs.Items.{bound_of, gap_of};
+ghost use Rattle.merkle_search_tree.specs.Items.{bound_of, lent_gap};
 ghost use Rattle.merkle_tree_theory.specs.Gap.{everywhere, SameBound, SameGap};
 ghost use Rattle.merkle_wire.specs.Gaps.{between, owned_gap, gap_behind, gap_key, HasKeyBounds, gap_some, gap_told};
 
@@ -31,7 +31,7 @@ impl<K> OwnedGap<K> {
 
     /// The same gap, with its keys borrowed.
     pub fn as_gap(&self) -> Gap<'_, K>
-        ensures { gap_of result ≡ owned_gap self.now }
+        ensures { lent_gap result ≡ owned_gap self.now }
     {
         Gap {
             after: self.after.as_ref(),

@@ -4,7 +4,7 @@ ghost use Rattle.std.specs.Int.NonZero.{non_zero_u8_get};
 ghost use Rattle.key_order.specs.Map.{get};
 ghost use Rattle.merkle_bytes.specs.Options.{IsOption};
 ghost use Rattle.merkle_replica.specs.Descent.{HasPage};
-ghost use Rattle.merkle_search_tree.specs.Items.{gap_of};
+ghost use Rattle.merkle_search_tree.specs.Items.{lent_gap};
 ghost use Rattle.merkle_tree_theory.specs.State.{map_of};
 ghost use Rattle.merkle_wire.specs.ItsRows.{ForItsRows, ForRowsOf, Kept, digests_of};
 ghost use Rattle.merkle_wire.specs.Steady.{IsKeyOf};
@@ -60,7 +60,7 @@ pub trait KeptTree<const N: usize, K: Key, V: Join, H: RowHasher<N, K, V>> {
     fn is_page(&mut self, gap: &Gap<'_, K>, digest: &PageDigest) -> Result<bool, Self::Error>
         ensures there { IfOk result (λ is. IsTrue is → ForRowsOf H.laws (kept self.old).digests (λ local. HasPage H.laws local digest.now)) }
         ensures lacked { IfOk result (λ is. is ≡ false → ForRowsOf H.laws (kept self.old).digests
-            (λ local. ¬ HasPageAt H.laws local (gap_of gap.now) digest.now)) }
+            (λ local. ¬ HasPageAt H.laws local (lent_gap gap.now) digest.now)) }
         ensures kept { kept self.new ≡ kept self.old };
 }
 
@@ -164,7 +164,7 @@ fn is_page_of<K: Key + Drop, V: Join + Drop, H: RowHasher<N, K, V>, const N: usi
 ) -> bool
     requires { IsSome tree.now.root_hash }
     ensures there { IsTrue result → ForItsRows H.laws tree.now (λ local. HasPage H.laws local digest.now) }
-    ensures lacked { result ≡ false → ForItsRows H.laws tree.now (λ local. ¬ HasPageAt H.laws local (gap_of gap.now) digest.now) }
+    ensures lacked { result ≡ false → ForItsRows H.laws tree.now (λ local. ¬ HasPageAt H.laws local (lent_gap gap.now) digest.now) }
 {
     every_tree_is_sound(tree);
     a_map_has_one_tree::<K, H, N>();

@@ -109,7 +109,7 @@ pub(crate) fn decode_kind(reader: &mut Reader<'_>) -> Result<Kind, ReadError>
 
 /// A message that refuses what was asked.
 ///
-/// ```rust crates/delta_tests/src/others.rt
+/// ```rust crates/merkle_delta_tests/src/others.rt
 /// match merkle_wire::answer(alloc, peer, message) {
 ///     Ok(reply) => Ok(reply),
 ///     Err(AnswerError::Malformed(_)) => Ok(refusal(alloc)?),

@@ -5,7 +5,7 @@ ghost use Rattle.merkle_bytes.specs.Encodings.{AddsBytes};
 ghost use Rattle.merkle_search_tree.specs.Items.{items};
 ghost use Rattle.merkle_wire.specs.Nodes.{node_pairs};
 ghost use Rattle.merkle_wire.specs.Outlines.{nodes_among, nodes_digest};
-ghost use Rattle.merkle_wire.specs.Told.{AddsRowAt, AreRowsOf, TellsNodes, bound_before, digests_bytes, node_keys_bytes};
+ghost use Rattle.merkle_wire.specs.Told.{AddsRowAt, AreRowsOfNodes, TellsNodes, bound_before, digests_bytes, node_keys_bytes};
 
 use crate::kept_rows::KeptRows;
 use merkle_bytes::{Encode, KeyRun, encode_count};
@@ -98,7 +98,7 @@ fn short_rows<K: Key + Encode, V: Encode, R: KeptRows<K, V>, const N: usize>(
     after: Option<&K>,
 ) -> Result<Option<ToldRows>, R::Error>
     ensures { IfOk result (λ found. IfSome found
-        (AreRowsOf K.cmp K.encoding V.encoding (R.rows rows.now) nodes.now (bound_before K.encoding after.entry))) }
+        (AreRowsOfNodes K.cmp K.encoding V.encoding (R.rows rows.now) nodes.now (bound_before K.encoding after.entry))) }
 {
     if !rows.are_at_hand() {
         return Ok(None);
@@ -117,7 +117,7 @@ fn rows_of<K: Key + Encode, V: Encode, R: KeptRows<K, V>, const N: usize>(
     limit: u64,
     run: &mut KeyRun,
 ) -> Result<Option<ToldRows>, R::Error>
-    ensures { IfOk result (λ found. IfSome found (AreRowsOf K.cmp K.encoding V.encoding (R.rows rows.now) nodes.now run.old)) }
+    ensures { IfOk result (λ found. IfSome found (AreRowsOfNodes K.cmp K.encoding V.encoding (R.rows rows.now) nodes.now run.old)) }
 {
     let mut told = ToldRows {
         count: 0,

@@ -100,7 +100,7 @@ fn with_run<T: EncodeInRun>(
 
 /// What a message asks for. It reads the bytes in one pass. The keys that it makes take at most 64 times as many bytes.
 ///
-/// ```rust crates/wire_tests/src/first_calls.rt
+/// ```rust crates/merkle_wire_tests/src/first_calls.rt
 /// let (_, message) = CatchingUp::begin(alloc, &laptop)?;
 /// match decode_question::<String>(alloc, &message)? {
 ///     Question::Root(settings) => assert_eq!(rt; settings.level_base, 16),

@@ -4,7 +4,7 @@ ghost use Rattle.merkle_bytes.specs.Reading.{Reads};
 ghost use Rattle.merkle_wire.specs.Faults.{IsRefusedFor};
 ghost use Rattle.merkle_wire.specs.Fit.{SaysRoot};
 ghost use Rattle.merkle_wire.specs.Messages.{front};
-ghost use Rattle.merkle_wire.specs.Reads.{IsRead, ReadsOutlines, ReadsParts, ReadsPartsOf, ReadsValues, outlines_read};
+ghost use Rattle.merkle_wire.specs.Reads.{IsReplyRead, ReadsOutlines, ReadsParts, ReadsPartsOf, ReadsValues, outlines_read};
 ghost use Rattle.merkle_wire.specs.Reads.{RefusesOutlines, RefusesParts, RefusesPartsOf, RefusesReply, RefusesValues};
 ghost use Rattle.merkle_wire.specs.Replies.{root_reply_bytes};
 ghost use Rattle.merkle_wire.specs.Unfit.{NoEntry, NoFront, SaysNot};
@@ -181,7 +181,7 @@ pub(crate) fn read_reply<'a, K: Key + Decode, V: Join + Decode>(
     asked: Question<K>,
     reply: &'a [u8],
 ) -> Result<(Reply<'a, K, V>, Option<Question<K>>), SessionError>
-    ensures read { IfOk result (λ came. IsRead K.cmp K.encoding V.encoding digest_bytes asked reply.now came.0 came.1) }
+    ensures read { IfOk result (λ came. IsReplyRead K.cmp K.encoding V.encoding digest_bytes asked reply.now came.0 came.1) }
     ensures refused { IfErr result (RefusesReply K.cmp K.is_value V.is_value K.encoding V.encoding digest_bytes asked reply.now) }
 {
     match asked {

@@ -8,7 +8,7 @@ ghost use Rattle.merkle_wire.specs.Limits.{no_limits};
 ghost use Rattle.merkle_wire.specs.Next.{IsUnlimited};
 ghost use Rattle.merkle_wire.specs.Questions.{AsksForOwnRoot, IsQuestion, question_bytes};
 ghost use Rattle.merkle_wire.specs.Sessions.{AreBothRefused, BringsRows, CatchesUpWhileFaithful, EndsEarly, GoesOnCovering, HaveJoined};
-ghost use Rattle.merkle_wire.specs.Sessions.{HoldTheJoinWhileFaithful, IsEarly, JoinsNewRows, JoinsWhileFaithful, TellsOwn, TellsOwnNext};
+ghost use Rattle.merkle_wire.specs.Sessions.{BothHoldTheJoin, EndsBeforeJoin, JoinsNewRows, BringsTheJoin, TellsOwn, TellsOwnNext};
 ghost use Rattle.merkle_wire.specs.Steady.{EndsForMemory, GoesDown, HasKeysOfSides, IsKeyOf, KeepsKeys, LacksMemory, StaysSteady};
 
 use crate::answering::{AnswerError, answer};
@@ -48,7 +48,7 @@ impl fmt::Display for MessagesError {
 
 /// Catches up with a peer by messages, each written to bytes and read again. Returns how many rows of the peer were joined.
 ///
-/// ```rust crates/wire_tests/src/first_calls.rt
+/// ```rust crates/merkle_wire_tests/src/first_calls.rt
 /// laptop.put(String::from_str(alloc, "bananas")?, 7)?;
 /// let joined = catch_up_by_messages(alloc, &mut office, &mut laptop)?;
 /// assert_eq!(rt; joined, 1);
@@ -72,7 +72,7 @@ pub fn catch_up_by_messages<
 
     // So it is a catch-up then, and leaves the join of both sides' rows.
     ensures catch_up { IfOk result (CatchesUpWhileFaithful H.laws replica.old peer.old replica.new) }
-    ensures join { OnOk result (JoinsWhileFaithful H.laws replica.old peer.old replica.new) }
+    ensures join { OnOk result (BringsTheJoin H.laws replica.old peer.old replica.new) }
 
     // Refused, it has joined no row, or the first ones. For its settings it is refused only where the two are not set alike.
     ensures refused { IfErr result (EndsEarly H.laws replica.old peer.old replica.new) }
@@ -137,7 +137,7 @@ pub fn catch_up_both_by_messages<
     ensures joined { IfOk result (HaveJoined H.laws a.old b.old a.new b.new) }
 
     // While digests are faithful before each of them, both then hold the join.
-    ensures join { OnOk result (HoldTheJoinWhileFaithful H.laws a.old b.old a.new b.new) }
+    ensures join { OnOk result (BothHoldTheJoin H.laws a.old b.old a.new b.new) }
 
     ensures refused { IfErr result (AreBothRefused H.laws a.old b.old a.new b.new) }
     ensures a_settings { SameSettings a.old.tree a.new.tree }
@@ -160,7 +160,7 @@ fn rows_by_messages<K: Key + Decode, V: Join + Decode, H: RowHasher<N, K, V>, co
     peer: &mut Replica<K, V, H, N>,
 ) -> Result<Vec<(K, V)>, MessagesError>
     ensures brought { IfOk result (BringsRows H.laws replica.old peer.old) }
-    ensures early { IfErr result (IsEarly H.laws (side replica.old) (side peer.old)) }
+    ensures early { IfErr result (EndsBeforeJoin H.laws (side replica.old) (side peer.old)) }
     ensures memory { IfErr result (LacksMemory H.laws replica.old peer.old K.is_value V.is_value) }
     ensures rows { replica.new.rows ≡ replica.old.rows }
     ensures settings { SameSettings replica.old.tree replica.new.tree }
@@ -216,7 +216,7 @@ fn exchange<K: Key + Decode, V: Join + Decode, H: RowHasher<N, K, V>, const N: u
     ensures keys { IfOk result (KeepsKeys H.laws N (side peer.old) (side replica.old)) }
     ensures steady { IfOk result (StaysSteady H.laws N (side peer.old) session) }
     ensures less { IfOk result (GoesDown H.laws N (side peer.old) session) }
-    ensures early { IfErr result (IsEarly H.laws (side replica.old) (side peer.old)) }
+    ensures early { IfErr result (EndsBeforeJoin H.laws (side replica.old) (side peer.old)) }
     ensures memory { IfErr result (EndsForMemory H.laws N peer.old replica.old K.is_value V.is_value session) }
     ensures rows { replica.new.rows ≡ replica.old.rows }
     ensures settings { SameSettings replica.old.tree replica.new.tree }

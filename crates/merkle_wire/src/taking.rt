@@ -4,7 +4,7 @@ ghost use Rattle.merkle_wire.specs.Gaps.{between, owned_gap};
 ghost use Rattle.merkle_wire.specs.ItsRows.{ForRowsOf};
 ghost use Rattle.merkle_wire.specs.Reads.{nodes_read, outline_read, outlines_read, page_read};
 ghost use Rattle.merkle_wire.specs.Takes.{AddsBelow, AddsGapsBeside, IsReplyTaken};
-ghost use Rattle.merkle_wire.specs.Taking.{AddsKeys, AddsRows, AreTaken, IsRootTaken, IsTaken};
+ghost use Rattle.merkle_wire.specs.Taking.{AddsKeys, AddsRows, AreTaken, IsRootTaken, IsPageTaken};
 
 use crate::coming::{NodeRead, OutlineRead, PageRead};
 use crate::gaps::OwnedGap;
@@ -115,7 +115,7 @@ fn take_outline<
     work: &mut Work<K, V>,
 ) -> Result<(), T::Error>
     ensures taken { OnOk result (ForRowsOf H.laws (T.kept tree.old).digests
-        (λ local. IsTaken H.laws local (owned_gap gap.now) (outline_read came.entry) work.old work.new)) }
+        (λ local. IsPageTaken H.laws local (owned_gap gap.now) (outline_read came.entry) work.old work.new)) }
     ensures kept { T.kept tree.new ≡ T.kept tree.old }
 {
     match came {
@@ -187,7 +187,7 @@ fn take_page<
     work: &mut Work<K, V>,
 ) -> Result<(), T::Error>
     ensures taken { OnOk result (ForRowsOf H.laws (T.kept tree.old).digests
-        (λ local. IsTaken H.laws local (owned_gap gap.now) (page_read page.now) work.old work.new)) }
+        (λ local. IsPageTaken H.laws local (owned_gap gap.now) (page_read page.now) work.old work.new)) }
     ensures kept { T.kept tree.new ≡ T.kept tree.old }
 {
     take_pages(tree, gap, &page.below, &page.last, work)?;

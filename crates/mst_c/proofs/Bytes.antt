@@ -7,44 +7,44 @@ use Rattle.std.specs.declared.cmp.Ordering.{Ordering}
 use Rattle.std.specs.declared.cmp.Ordering.TheVariants.{Less, Greater}
 use Rattle.key_order.specs.Map.{get, set, del, has_key, entry, IsPresent}
 use Rattle.key_order.proofs.Dels.{entry-there, entry-absent}
-use Rattle.mst_c.specs.Trees.{bytes_cmp, by_bytes, key_cmp}
+use Rattle.c_values.specs.Keys.{bytes_cmp, by_key, key_cmp}
 
 abbrev pub ByteRow : Type 0
 ByteRow = Vec ℕ × List ℕ
 
-map_choice : (o : Ordering) (a b c : List ByteRow) → map by_bytes (match_ordering o a b c) ≡ match_ordering o (map by_bytes a) (map by_bytes b) (map by_bytes c)
+map_choice : (o : Ordering) (a b c : List ByteRow) → map by_key (match_ordering o a b c) ≡ match_ordering o (map by_key a) (map by_key b) (map by_key c)
 map_choice Less a b c = refl
 map_choice Equal a b c = refl
 map_choice Greater a b c = refl
 
-map_kept : (b : Bool) (r : ByteRow) (rs : List ByteRow) → map by_bytes (cond b (r ∷ rs) rs) ≡ cond b (by_bytes r ∷ map by_bytes rs) (map by_bytes rs)
+map_kept : (b : Bool) (r : ByteRow) (rs : List ByteRow) → map by_key (cond b (r ∷ rs) rs) ≡ cond b (by_key r ∷ map by_key rs) (map by_key rs)
 map_kept true r rs = refl
 map_kept false r rs = refl
 
-pub rows_set : (m : List ByteRow) (k : Vec ℕ) (d : List ℕ) → map by_bytes (set key_cmp m k d) ≡ set bytes_cmp (map by_bytes m) k.items d
+pub rows_set : (m : List ByteRow) (k : Vec ℕ) (d : List ℕ) → map by_key (set key_cmp m k d) ≡ set bytes_cmp (map by_key m) k.items d
 rows_set [] k d = refl
 rows_set (r ∷ rs) k d =
     map_choice (key_cmp k r.0) ((k, d) ∷ r ∷ rs) ((r.0, d) ∷ rs) (r ∷ set key_cmp rs k d)
-    ∙ ap (λ t. match_ordering (key_cmp k r.0) (by_bytes (k, d) ∷ by_bytes r ∷ map by_bytes rs) (by_bytes (r.0, d) ∷ map by_bytes rs) (by_bytes r ∷ t)) (rows_set rs k d)
+    ∙ ap (λ t. match_ordering (key_cmp k r.0) (by_key (k, d) ∷ by_key r ∷ map by_key rs) (by_key (r.0, d) ∷ map by_key rs) (by_key r ∷ t)) (rows_set rs k d)
 
-pub rows_del : (m : List ByteRow) (k : Vec ℕ) → map by_bytes (del key_cmp m k) ≡ del bytes_cmp (map by_bytes m) k.items
+pub rows_del : (m : List ByteRow) (k : Vec ℕ) → map by_key (del key_cmp m k) ≡ del bytes_cmp (map by_key m) k.items
 rows_del [] k = refl
 rows_del (r ∷ rs) k =
     let keep = not (is_eq (key_cmp k r.0)) in
-    map_kept keep r (del key_cmp rs k) ∙ ap (λ t. cond keep (by_bytes r ∷ t) t) (rows_del rs k)
+    map_kept keep r (del key_cmp rs k) ∙ ap (λ t. cond keep (by_key r ∷ t) t) (rows_del rs k)
 
-pub rows_have : (m : List ByteRow) (k : Vec ℕ) → has_key key_cmp m k ≡ has_key bytes_cmp (map by_bytes m) k.items
+pub rows_have : (m : List ByteRow) (k : Vec ℕ) → has_key key_cmp m k ≡ has_key bytes_cmp (map by_key m) k.items
 rows_have [] k = refl
 rows_have (r ∷ rs) k = ap (λ b. is_eq (key_cmp k r.0) || b) (rows_have rs k)
 
-pub rows_get : (m : List ByteRow) (k : Vec ℕ) → get key_cmp m k ≡ get bytes_cmp (map by_bytes m) k.items
+pub rows_get : (m : List ByteRow) (k : Vec ℕ) → get key_cmp m k ≡ get bytes_cmp (map by_key m) k.items
 rows_get [] k = refl
 rows_get (r ∷ rs) k = ap (cond (is_eq (key_cmp r.0 k)) (Some r.1)) (rows_get rs k)
 
 -- a key without an entry isn't there, and one with an entry is
-pub absent : (m : List ByteRow) (k : Vec ℕ) → entry key_cmp m k ≡ None → false ≡ has_key bytes_cmp (map by_bytes m) k.items
+pub absent : (m : List ByteRow) (k : Vec ℕ) → entry key_cmp m k ≡ None → false ≡ has_key bytes_cmp (map by_key m) k.items
 absent m k none = sym (false_from_ne_true (has_key key_cmp m k) (λ there. entry-there key_cmp k m there none)) ∙ rows_have m k
 
-pub present : (m : List ByteRow) (k : Vec ℕ) (found : ByteRow) → entry key_cmp m k ≡ Some found → true ≡ has_key bytes_cmp (map by_bytes m) k.items
+pub present : (m : List ByteRow) (k : Vec ℕ) (found : ByteRow) → entry key_cmp m k ≡ Some found → true ≡ has_key bytes_cmp (map by_key m) k.items
 present m k found some =
     sym (true_from_ne_false (has_key key_cmp m k) (λ no. subst IsPresent (sym some ∙ entry-absent key_cmp k m no) tt)) ∙ rows_have m k

@@ -46,9 +46,33 @@ keys_row = Vec.the_row u8 Heap.the_row ghosts
 -- each field of a tree goes, the pages by the law of their recursion
 tree_goes : IsSend Tree.the_row
 tree_goes =
-    let inner = inside.the_type keys_row (Array u8 tt 16) Hasher.the_row (number 16) (ord.ghosts u8 Heap.the_row U8Ord.ghosts ord.no_dict U8Eq.ghosts ord.no_dict U8PartialEq.ghosts ord.no_dict U8PartialOrd.ghosts ord.no_dict ghosts ord.no_dict ord.no_dict) (eq.ghosts u8 Heap.the_row U8PartialEq.ghosts eq.no_dict ghosts eq.no_dict eq.no_dict) (part.ghosts u8 Heap.the_row U8PartialOrd.ghosts part.no_dict U8PartialEq.ghosts part.no_dict ghosts part.no_dict part.no_dict) keys.ghosts hashes.ghosts in
+    let inner = inside.the_type keys_row (Array u8 tt 16) Hasher.the_row (number 16)
+    (ord.ghosts u8 Heap.the_row U8Ord.ghosts ord.no_dict U8Eq.ghosts ord.no_dict U8PartialEq.ghosts ord.no_dict U8PartialOrd.ghosts ord.no_dict ghosts
+    ord.no_dict ord.no_dict) (eq.ghosts u8 Heap.the_row U8PartialEq.ghosts eq.no_dict ghosts eq.no_dict eq.no_dict)
+    (part.ghosts u8 Heap.the_row U8PartialOrd.ghosts part.no_dict U8PartialEq.ghosts part.no_dict ghosts part.no_dict part.no_dict) keys.ghosts hashes.ghosts in
     recorded_send _ _ _ (Tree.the_type).to_one (struct_send (shape Tree.the_type) (
-      view_send (inside.the_row keys_row (Array u8 tt 16) Hasher.the_row (number 16) (ord.ghosts u8 Heap.the_row U8Ord.ghosts ord.no_dict U8Eq.ghosts ord.no_dict U8PartialEq.ghosts ord.no_dict U8PartialOrd.ghosts ord.no_dict ghosts ord.no_dict ord.no_dict) (eq.ghosts u8 Heap.the_row U8PartialEq.ghosts eq.no_dict ghosts eq.no_dict eq.no_dict) (part.ghosts u8 Heap.the_row U8PartialOrd.ghosts part.no_dict U8PartialEq.ghosts part.no_dict ghosts part.no_dict part.no_dict) keys.ghosts hashes.ghosts) _ _ _ _ (recorded_send _ _ _ inner.to_one (struct_send (shape inner) (heap.the_field_send, (search sendable depth 10, (search sendable depth 10, (search sendable depth 10, (send-PageOf keys_row (ValueDigest.the_row (number 16)) (Vec-send u8 (search sendable)) (value_digest.the_send (number 16)) (λ h goes. option.the_send _ (Box-send h goes)) (search sendable) (option.the_send _ page_digest.the_send) (λ h goes. Vec-send h goes), (option.the_field_send _ root_hash.the_send, (search sendable depth 10, tt))))))))),
+      view_send (inside.the_row keys_row (Array u8 tt 16) Hasher.the_row (number 16)
+          (ord.ghosts u8 Heap.the_row U8Ord.ghosts ord.no_dict U8Eq.ghosts ord.no_dict U8PartialEq.ghosts ord.no_dict U8PartialOrd.ghosts ord.no_dict ghosts
+          ord.no_dict ord.no_dict) (eq.ghosts u8 Heap.the_row U8PartialEq.ghosts eq.no_dict ghosts eq.no_dict eq.no_dict)
+          (part.ghosts u8 Heap.the_row U8PartialOrd.ghosts part.no_dict U8PartialEq.ghosts part.no_dict ghosts part.no_dict part.no_dict) keys.ghosts
+          hashes.ghosts) _ _ _ _ (recorded_send _ _ _ inner.to_one
+          (struct_send (shape inner) (
+            heap.the_field_send,
+            (
+              search sendable depth 10,
+              (
+                search sendable depth 10,
+                (
+                  search sendable depth 10,
+                  (
+                    send-PageOf keys_row (ValueDigest.the_row (number 16)) (Vec-send u8 (search sendable)) (value_digest.the_send (number 16))
+                        (λ h goes. option.the_send _ (Box-send h goes)) (search sendable) (option.the_send _ page_digest.the_send) (λ h goes. Vec-send h goes),
+                    (option.the_field_send _ root_hash.the_send, (search sendable depth 10, tt)),
+                  ),
+                ),
+              ),
+            ),
+          ))),
       (search sendable depth 10, (search sendable depth 10, tt)),
     ))
 

@@ -5,7 +5,7 @@ use Rattle.std.specs.List.{AllByRecursion, flat_map}
 use Rattle.std.proofs.lemmas.List.{append_assoc, append-nil, length-append}
 use Rattle.std.proofs.lemmas.Grind.{flat_map-append}
 use Rattle.key_order.proofs.ListParts.{join_tells}
-use Rattle.mst_c.specs.Wire.{number_bytes, list_bytes}
+use Rattle.c_values.specs.Lists.{number_bytes, marked_list}
 use Rattle.mst_c.proofs.Strings.{one_number}
 
 -- one entry more was read
@@ -63,12 +63,12 @@ module _ {X : Type 0} (bytes : X → List ℕ) (some : (x : X) → 1 ≤ length 
   no_more [] = omega arith
   no_more (x ∷ xs) = omega (arith, some x, no_more xs, length-append (bytes x) (flat_map bytes xs))
 
-  few : (mark all : List ℕ) (xs : List X) → length all < 2 ^ 64 → all ≡ list_bytes mark bytes xs → length xs < 2 ^ 64
+  few : (mark all : List ℕ) (xs : List X) → length all < 2 ^ 64 → all ≡ marked_list mark bytes xs → length xs < 2 ^ 64
   few mark all xs short e = omega (arith, no_more xs, ap length e, list_length mark (length xs) (flat_map bytes xs))
 
   -- the number of entries and the entries of a list are read in one way
   pub same_body : (mark : List ℕ) (n : ℕ) (body all : List ℕ) (xs : List X) → n < 2 ^ 64 → length all < 2 ^ 64
-      → all ≡ mark ++ (number_bytes n ++ body) → all ≡ list_bytes mark bytes xs → (n ≡ length xs) × (body ≡ flat_map bytes xs)
+      → all ≡ mark ++ (number_bytes n ++ body) → all ≡ marked_list mark bytes xs → (n ≡ length xs) × (body ≡ flat_map bytes xs)
   same_body mark n body all xs fits short e f =
       let behind = join_tells mark mark (number_bytes n ++ body) (number_bytes (length xs) ++ flat_map bytes xs) (λ i. length mark) (sym e ∙ f) in
       one_number n (length xs) body (flat_map bytes xs) fits (few mark all xs short f) behind.1
@@ -87,7 +87,7 @@ module _ {X : Type 0} (bytes : X → List ℕ) (some : (x : X) → 1 ≤ length 
 
     -- a list is read in one way where each of its entries is
     pub one_list : (mark all : List ℕ) (xs ys : List X) → length all < 2 ^ 64 → AllByRecursion P xs → AllByRecursion P ys
-        → all ≡ list_bytes mark bytes xs → all ≡ list_bytes mark bytes ys → map seen xs ≡ map seen ys
+        → all ≡ marked_list mark bytes xs → all ≡ marked_list mark bytes ys → map seen xs ≡ map seen ys
     one_list mark all xs ys short ps qs e f =
         let both = same_body mark (length xs) (flat_map bytes xs) all ys (few mark all xs short e) short e f in
         same_each xs ys ps qs both.0 (omega (arith, ap length e, list_length mark (length xs) (flat_map bytes xs))) both.1

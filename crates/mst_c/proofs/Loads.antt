@@ -13,7 +13,7 @@ use Rattle.key_order.proofs.ListParts.{map-first}
 use Rattle.merkle_search_tree.specs.Loading.{LoadFails, digests}
 use Rattle.merkle_search_tree.specs.declared.load.LoadRefused.{LoadRefused}
 use Rattle.merkle_search_tree.specs.declared.load.LoadRefused.TheVariants.{NotAscending}
-use Rattle.mst_c.specs.Trees.{bytes_cmp, by_bytes, key_cmp}
+use Rattle.c_values.specs.Keys.{bytes_cmp, by_key, key_cmp}
 
 -- of a success more holds where it follows
 pub on_ok : {T E P Q : Type 0} (r : Result T E) → (P → Q) → OnOk r P → OnOk r Q
@@ -43,13 +43,13 @@ module _ {K L X Y : Type 0} (cmp : K → K → Ordering) (other : L → L → Or
   map_from (r ∷ rs) a = (all_from r rs a.0, map_from rs a.1)
 
 -- pairs ascend as the bytes of their keys do
-pub by_bytes_ascend : (pairs : List (Vec ℕ × List ℕ)) → IsMap key_cmp pairs → IsMap bytes_cmp (map by_bytes pairs)
-by_bytes_ascend = map_to key_cmp bytes_cmp by_bytes (λ r s. λ i. key_cmp r.0 s.0)
+pub by_bytes_ascend : (pairs : List (Vec ℕ × List ℕ)) → IsMap key_cmp pairs → IsMap bytes_cmp (map by_key pairs)
+by_bytes_ascend = map_to key_cmp bytes_cmp by_key (λ r s. λ i. key_cmp r.0 s.0)
 
-pub from_bytes_ascend : (pairs : List (Vec ℕ × List ℕ)) → IsMap bytes_cmp (map by_bytes pairs) → IsMap key_cmp pairs
-from_bytes_ascend = map_from key_cmp bytes_cmp by_bytes (λ r s. λ i. key_cmp r.0 s.0)
+pub from_bytes_ascend : (pairs : List (Vec ℕ × List ℕ)) → IsMap bytes_cmp (map by_key pairs) → IsMap key_cmp pairs
+from_bytes_ascend = map_from key_cmp bytes_cmp by_key (λ r s. λ i. key_cmp r.0 s.0)
 
-module _ (h : List ℕ → List ℕ) (pairs : List (Vec ℕ × List ℕ)) (rows : List (List ℕ × List ℕ)) (e : map by_bytes pairs ≡ digests h rows) where
+module _ (h : List ℕ → List ℕ) (pairs : List (Vec ℕ × List ℕ)) (rows : List (List ℕ × List ℕ)) (e : map by_key pairs ≡ digests h rows) where
   -- the rows ascend where the pairs do that have their keys
   pub rows_ascend : IsMap key_cmp pairs → IsMap bytes_cmp rows
   rows_ascend a = map_from bytes_cmp bytes_cmp (λ r. (r.0, h r.1)) (λ r s. λ i. bytes_cmp r.0 s.0) rows

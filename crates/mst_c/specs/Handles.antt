@@ -3,7 +3,8 @@ use Rattle.std.specs.Prelude.{◌≡◌, ◌≢◌, ◌⊎◌, ℕ, ◌<◌, ◌
 use Rattle.key_order.specs.Map.{get}
 use Rattle.merkle_tree_theory.specs.State.{IsNew}
 use Rattle.merkle_tree_theory.specs.declared.page_format.PageFormat.{PageFormat}
-use Rattle.mst_c.specs.Trees.{ByteState, bytes_cmp, rows_of}
+use Rattle.mst_c.specs.Trees.{ByteState}
+use Rattle.c_values.specs.Keys.{bytes_cmp, pairs_of}
 use Rattle.mst_c.specs.declared.byte_tree.ByteTree.{ByteTree}
 
 -- the handle has a tree, of which this holds
@@ -12,26 +13,26 @@ HasTree None P = ⊥
 HasTree (Some s) P = P s.tree
 
 -- the handle had a tree and has one, and they are related
-abbrev pub Changes : Option ByteTree → Option ByteTree → (ByteState → ByteState → Type 0) → Type 0
-Changes None new R = ⊥
-Changes (Some s) None R = ⊥
-Changes (Some s) (Some t) R = R s.tree t.tree
+abbrev pub ChangesTree : Option ByteTree → Option ByteTree → (ByteState → ByteState → Type 0) → Type 0
+ChangesTree None new R = ⊥
+ChangesTree (Some s) None R = ⊥
+ChangesTree (Some s) (Some t) R = R s.tree t.tree
 
 -- bytes of which this holds, as many as needed, are in front of out, and after them it is as before
-abbrev pub IsOutput : List ℕ → List ℕ → ℕ → (List ℕ → Type 0) → Type 0
-IsOutput old new needed P = (bytes : List ℕ) × P bytes × (needed ≡ length bytes) × (needed ≤ length old) × (new ≡ bytes ++ drop needed old)
+abbrev pub IsOutputWhere : List ℕ → List ℕ → ℕ → (List ℕ → Type 0) → Type 0
+IsOutputWhere old new needed P = (bytes : List ℕ) × P bytes × (needed ≡ length bytes) × (needed ≤ length old) × (new ≡ bytes ++ drop needed old)
 
 -- there are such bytes, as many as needed, and out is shorter
-abbrev pub IsShort : List ℕ → ℕ → (List ℕ → Type 0) → Type 0
-IsShort out needed P = (length out < needed) × ((bytes : List ℕ) × P bytes × (needed ≡ length bytes))
+abbrev pub IsShortWhere : List ℕ → ℕ → (List ℕ → Type 0) → Type 0
+IsShortWhere out needed P = (length out < needed) × ((bytes : List ℕ) × P bytes × (needed ≡ length bytes))
 
 -- the handle has a tree, and bytes that tell this of it are in front of out
 abbrev pub IsOutputOf : Option ByteTree → (ByteState → List ℕ → Type 0) → List ℕ → List ℕ → ℕ → Type 0
-IsOutputOf tree Tells old new needed = HasTree tree (λ s. IsOutput old new needed (Tells s))
+IsOutputOf tree Tells old new needed = HasTree tree (λ s. IsOutputWhere old new needed (Tells s))
 
 -- it has a tree, and out is too short for such bytes
 abbrev pub IsShortOf : Option ByteTree → (ByteState → List ℕ → Type 0) → List ℕ → ℕ → Type 0
-IsShortOf tree Tells out needed = HasTree tree (λ s. IsShort out needed (Tells s))
+IsShortOf tree Tells out needed = HasTree tree (λ s. IsShortWhere out needed (Tells s))
 
 -- it has the empty tree with this key of SipHash, way of feeding keys, level base and page format
 abbrev pub HasNewTree : Option ByteTree → List ℕ → ℕ → ℕ → PageFormat → Type 0
@@ -42,5 +43,5 @@ abbrev pub MakesNoTree : Option ByteTree → ℕ → ℕ → ℕ → Type 0
 MakesNoTree tree base format feed = (tree ≢ None) ⊎ (base ≡ 0) ⊎ ((format ≢ 1) × (format ≢ 2)) ⊎ (2 < feed)
 
 -- it has a tree, which has this digest at the key, or none
-abbrev pub HasAt : Option ByteTree → List ℕ → Option (List ℕ) → Type 0
-HasAt tree key found = HasTree tree (λ s. get bytes_cmp (rows_of s) key ≡ found)
+abbrev pub HasTreeDigest : Option ByteTree → List ℕ → Option (List ℕ) → Type 0
+HasTreeDigest tree key found = HasTree tree (λ s. get bytes_cmp (pairs_of s) key ≡ found)

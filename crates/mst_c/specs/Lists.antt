@@ -11,8 +11,10 @@ use Rattle.merkle_diff.specs.Entry.{Entry}
 use Rattle.merkle_search_tree.specs.Loading.{digests}
 use Rattle.merkle_tree_theory.specs.Ranges.{ranges_of}
 use Rattle.merkle_tree_theory.specs.State.{SameSettings, map_of}
-use Rattle.mst_c.specs.Trees.{ByteState, by_bytes, bytes_cmp, bytes_of, key_cmp, rows_of}
-use Rattle.mst_c.specs.Wire.{page_ranges_bytes, key_ranges_bytes, entry_bytes, row_bytes, rows_bytes, digest_bytes, digests_bytes}
+use Rattle.mst_c.specs.Trees.{ByteState}
+use Rattle.c_values.specs.Keys.{by_key, bytes_cmp, key_items, key_cmp, pairs_of}
+use Rattle.mst_c.specs.Wire.{page_ranges_bytes, key_ranges_bytes, range_entry, digest_bytes, digest_list}
+use Rattle.c_values.specs.Lists.{sized_row, row_list}
 
 -- an entry of a list of page ranges has a digest of 16 bytes, and its first key is at most its last
 abbrev pub IsPageRange : Entry (List ℕ) (List ℕ) → Type 0
@@ -32,7 +34,7 @@ HasDigest row = length row.1 ≡ 16
 
 -- the bytes are the list of these rows, which ascend by key
 abbrev pub AreRows : List ℕ → List (List ℕ × List ℕ) → Type 0
-AreRows bytes rows = (bytes ≡ rows_bytes rows) × IsMap bytes_cmp rows
+AreRows bytes rows = (bytes ≡ row_list rows) × IsMap bytes_cmp rows
 
 -- the map is these pairs, which ascend by key, and the settings stay
 abbrev pub HasPairs : List (Vec ℕ × List ℕ) → ByteState → ByteState → Type 0
@@ -40,11 +42,11 @@ HasPairs pairs old new = (map_of new ≡ pairs) × IsMap key_cmp pairs × SameSe
 
 -- the map is the rows that the bytes spell, each with the digest of its value, and the settings stay
 abbrev pub IsLoaded : List ℕ → ByteState → ByteState → Type 0
-IsLoaded bytes old new = (rows : List (List ℕ × List ℕ)) × AreRows bytes rows × (rows_of new ≡ digests (siphash128 old.hasher.key) rows) × SameSettings old new
+IsLoaded bytes old new = (rows : List (List ℕ × List ℕ)) × AreRows bytes rows × (pairs_of new ≡ digests (siphash128 old.hasher.key) rows) × SameSettings old new
 
 -- the bytes are this many rows, whatever the order of their keys
 abbrev pub AreManyRows : ℕ → List ℕ → Type 0
-AreManyRows count bytes = (rows : List (List ℕ × List ℕ)) × (length rows ≡ count) × (bytes ≡ flat_map row_bytes rows)
+AreManyRows count bytes = (rows : List (List ℕ × List ℕ)) × (length rows ≡ count) × (bytes ≡ flat_map sized_row rows)
 
 -- the map with these rows set one after the other, each to the digest of its value
 abbrev pub set_rows : (List ℕ → List ℕ) → List (List ℕ × List ℕ) → List (List ℕ × List ℕ) → List (List ℕ × List ℕ)
@@ -53,29 +55,29 @@ set_rows hash pairs (r ∷ rs) = set_rows hash (set bytes_cmp pairs r.0 (hash r.
 
 -- the map has these rows set one after the other, and the settings stay
 pub record AreSet (rows : List (List ℕ × List ℕ)) (old new : ByteState) : Type 0 where
-  pub pairs : rows_of new ≡ set_rows (siphash128 old.hasher.key) (rows_of old) rows
+  pub pairs : pairs_of new ≡ set_rows (siphash128 old.hasher.key) (pairs_of old) rows
   pub settings : SameSettings old new
 
 -- the bytes are this many rows, of which the first `done` were set
 abbrev pub AreSetOf : ℕ → List ℕ → ℕ → ByteState → ByteState → Type 0
 AreSetOf count bytes done old new =
-    (rows : List (List ℕ × List ℕ)) × (length rows ≡ count) × (bytes ≡ flat_map row_bytes rows) × (done ≤ count) × AreSet (take done rows) old new
+    (rows : List (List ℕ × List ℕ)) × (length rows ≡ count) × (bytes ≡ flat_map sized_row rows) × (done ≤ count) × AreSet (take done rows) old new
 
 -- the rows that the bytes spell, whatever the order of their keys, were all set, and there are this many of them
 abbrev pub AllSet : List ℕ → ℕ → ByteState → ByteState → Type 0
-AllSet bytes count old new = (rows : List (List ℕ × List ℕ)) × (bytes ≡ rows_bytes rows) × (count ≡ length rows) × AreSet rows old new
+AllSet bytes count old new = (rows : List (List ℕ × List ℕ)) × (bytes ≡ row_list rows) × (count ≡ length rows) × AreSet rows old new
 
 -- of the rows that the bytes spell, the first ones were set, this many, and not all
 abbrev pub FirstSet : List ℕ → ℕ → ByteState → ByteState → Type 0
-FirstSet bytes count old new = (rows : List (List ℕ × List ℕ)) × (bytes ≡ rows_bytes rows) × (count < length rows) × AreSet (take count rows) old new
+FirstSet bytes count old new = (rows : List (List ℕ × List ℕ)) × (bytes ≡ row_list rows) × (count < length rows) × AreSet (take count rows) old new
 
 -- the bytes are the list of these keys, which ascend, each with 16 bytes of digest
 abbrev pub AreDigests : List ℕ → List (List ℕ × List ℕ) → Type 0
-AreDigests bytes rows = (bytes ≡ digests_bytes rows) × AllByRecursion HasDigest rows × IsMap bytes_cmp rows
+AreDigests bytes rows = (bytes ≡ digest_list rows) × AllByRecursion HasDigest rows × IsMap bytes_cmp rows
 
 -- the map is what the bytes spell, and the settings stay
 abbrev pub AreLoaded : List ℕ → ByteState → ByteState → Type 0
-AreLoaded bytes old new = AreDigests bytes (rows_of new) × SameSettings old new
+AreLoaded bytes old new = AreDigests bytes (pairs_of new) × SameSettings old new
 
 -- the bytes are the list of the key ranges that `diff` may answer on the page ranges that local and peer spell
 abbrev pub IsDiffOf : List ℕ → List ℕ → List ℕ → Type 0
@@ -89,7 +91,7 @@ entry_by_bytes e = record { first = e.first.items; last = e.last.items; digest =
 
 -- the page ranges of a tree, by the bytes of their keys
 abbrev pub page_ranges_of : ByteState → List (Entry (List ℕ) (List ℕ))
-page_ranges_of s = map entry_by_bytes (ranges_of s.format bytes_of s.root)
+page_ranges_of s = map entry_by_bytes (ranges_of s.format key_items s.root)
 
 -- bytes spell one value at most
 abbrev pub SpellOne : {X : Type 0} → (List ℕ → X → Type 0) → Type 0
@@ -101,11 +103,11 @@ AreKeyRanges bytes ss = bytes ≡ key_ranges_bytes ss
 
 -- the bytes begin with this page range
 abbrev pub BeginsWithRange : List ℕ → Entry (List ℕ) (List ℕ) → List ℕ → Type 0
-BeginsWithRange bytes e rest = (bytes ≡ entry_bytes e ++ rest) × IsPageRange e
+BeginsWithRange bytes e rest = (bytes ≡ range_entry e ++ rest) × IsPageRange e
 
 -- they begin with none
 abbrev pub BeginsWithNoRange : List ℕ → Type 0
-BeginsWithNoRange bytes = (e : Entry (List ℕ) (List ℕ)) (rest : List ℕ) → IsPageRange e → bytes ≢ entry_bytes e ++ rest
+BeginsWithNoRange bytes = (e : Entry (List ℕ) (List ℕ)) (rest : List ℕ) → IsPageRange e → bytes ≢ range_entry e ++ rest
 
 -- they begin with no key that has a digest
 abbrev pub BeginsWithNoDigest : List ℕ → Type 0
@@ -114,11 +116,11 @@ BeginsWithNoDigest bytes = (row : List ℕ × List ℕ) (rest : List ℕ) → Ha
 -- the bytes are not this many page ranges
 abbrev pub AreNotSoManyRanges : ℕ → List ℕ → Type 0
 AreNotSoManyRanges count bytes =
-    (es : List (Entry (List ℕ) (List ℕ))) → AllByRecursion IsPageRange es → length es ≡ count → bytes ≢ flat_map entry_bytes es
+    (es : List (Entry (List ℕ) (List ℕ))) → AllByRecursion IsPageRange es → length es ≡ count → bytes ≢ flat_map range_entry es
 
 -- they are not this many rows
 abbrev pub AreNotSoManyRows : ℕ → List ℕ → Type 0
-AreNotSoManyRows count bytes = (given : List (List ℕ × List ℕ)) → length given ≡ count → bytes ≢ flat_map row_bytes given
+AreNotSoManyRows count bytes = (given : List (List ℕ × List ℕ)) → length given ≡ count → bytes ≢ flat_map sized_row given
 
 -- they are not this many keys with digests
 abbrev pub AreNotSoManyDigests : ℕ → List ℕ → Type 0
@@ -127,7 +129,7 @@ AreNotSoManyDigests count bytes =
 
 -- they are no list of keys with digests
 abbrev pub IsNoDigestList : List ℕ → Type 0
-IsNoDigestList bytes = (given : List (List ℕ × List ℕ)) → AllByRecursion HasDigest given → bytes ≢ digests_bytes given
+IsNoDigestList bytes = (given : List (List ℕ × List ℕ)) → AllByRecursion HasDigest given → bytes ≢ digest_list given
 
 -- they are not both lists of page ranges
 abbrev pub AreNotBothRanges : List ℕ → List ℕ → Type 0
@@ -135,13 +137,13 @@ AreNotBothRanges local peer = (ls ps : List (Entry (List ℕ) (List ℕ))) → A
 
 -- the bytes are this many rows, and these have the digests of their values under a key
 abbrev pub DigestsSoManyRows : ℕ → List ℕ → List ℕ → Vec (Vec ℕ × List ℕ) → Type 0
-DigestsSoManyRows count bytes key rows = (given : List (List ℕ × List ℕ)) × (bytes ≡ flat_map row_bytes given) × (length given ≡ count)
-    × (map by_bytes rows.items ≡ digests (siphash128 key) given)
+DigestsSoManyRows count bytes key rows = (given : List (List ℕ × List ℕ)) × (bytes ≡ flat_map sized_row given) × (length given ≡ count)
+    × (map by_key rows.items ≡ digests (siphash128 key) given)
 
 -- the same of a list of rows
 abbrev pub DigestsRows : List ℕ → List ℕ → Vec (Vec ℕ × List ℕ) → Type 0
 DigestsRows bytes key rows =
-    (given : List (List ℕ × List ℕ)) × (bytes ≡ rows_bytes given) × (map by_bytes rows.items ≡ digests (siphash128 key) given)
+    (given : List (List ℕ × List ℕ)) × (bytes ≡ row_list given) × (map by_key rows.items ≡ digests (siphash128 key) given)
 
 -- the bytes tell a tree's page ranges
 abbrev pub TellsRanges : ByteState → List ℕ → Type 0
@@ -149,4 +151,4 @@ TellsRanges s bytes = ArePageRanges bytes (page_ranges_of s)
 
 -- they tell its map, with the digests of values
 abbrev pub TellsDigests : ByteState → List ℕ → Type 0
-TellsDigests s bytes = bytes ≡ digests_bytes (rows_of s)
+TellsDigests s bytes = bytes ≡ digest_list (pairs_of s)

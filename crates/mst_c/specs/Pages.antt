@@ -7,7 +7,7 @@ use Rattle.merkle_tree_theory.specs.Events.{Event, visit_page, pre_visit_node, v
 use Rattle.merkle_tree_theory.specs.Page.{level, cache, nodes_of}
 use Rattle.merkle_tree_theory.specs.Tree.{Tree}
 use Rattle.mst_c.specs.Trees.{ByteState}
-use Rattle.mst_c.specs.Wire.{number_bytes, text_bytes}
+use Rattle.c_values.specs.Lists.{number_bytes, sized_bytes}
 use Rattle.mst_c.specs.declared.walk.Pages.{Pages}
 
 -- a call of a traversal of a tree of byte strings
@@ -28,14 +28,14 @@ cache_bytes None = 0 ∷ []
 cache_bytes (Some digest) = 1 ∷ digest
 
 -- a page: 2 where it is a high page and else 1, its level, the digest that it has or none, and how many keys stand on it
-abbrev pub page_bytes : Bool → Tree (Vec ℕ) (List ℕ) → List ℕ
-page_bytes is_high t = (if is_high then 2 else 1) ∷ level t ∷ (cache_bytes (cache t) ++ number_bytes (length (nodes_of t)))
+abbrev pub page_part : Bool → Tree (Vec ℕ) (List ℕ) → List ℕ
+page_part is_high t = (if is_high then 2 else 1) ∷ level t ∷ (cache_bytes (cache t) ++ number_bytes (length (nodes_of t)))
 
 -- an entry of a list of pages: a page, or 0 and a key
 abbrev pub call_bytes : Call → List ℕ
-call_bytes (visit_page t is_high) = page_bytes is_high t
+call_bytes (visit_page t is_high) = page_part is_high t
 call_bytes (pre_visit_node n) = []
-call_bytes (visit_node n) = 0 ∷ text_bytes n.key.items
+call_bytes (visit_node n) = 0 ∷ sized_bytes n.key.items
 call_bytes (post_visit_node n) = []
 call_bytes (post_visit_page t) = []
 
@@ -44,19 +44,19 @@ abbrev pub tree_mark : List ℕ
 tree_mark = 77 ∷ 83 ∷ 84 ∷ 116 ∷ []
 
 -- the entries of a tree, in the order in which a traversal comes to them
-abbrev pub entries_of : Tree (Vec ℕ) (List ℕ) → List Call
-entries_of root = flat_map written (events_of false root)
+abbrev pub page_entries : Tree (Vec ℕ) (List ℕ) → List Call
+page_entries root = flat_map written (events_of false root)
 
 -- the list of the pages of a tree
-abbrev pub pages_bytes : Tree (Vec ℕ) (List ℕ) → List ℕ
-pages_bytes root = tree_mark ++ (number_bytes (row_count (entries_of root)) ++ flat_map call_bytes (entries_of root))
+abbrev pub page_list : Tree (Vec ℕ) (List ℕ) → List ℕ
+page_list root = tree_mark ++ (number_bytes (row_count (page_entries root)) ++ flat_map call_bytes (page_entries root))
 
 -- the bytes tell the pages of a tree
-abbrev pub TellsPages : ByteState → List ℕ → Type 0
-TellsPages s bytes = bytes ≡ pages_bytes s.root
+abbrev pub TellsPageList : ByteState → List ℕ → Type 0
+TellsPageList s bytes = bytes ≡ page_list s.root
 
 -- a visitor wrote these entries too, and counted them
-pub record Writes (entries : List Call) (old new : Pages) : Type 0 where
+pub record WritesEntries (entries : List Call) (old new : Pages) : Type 0 where
   pub bytes : new.bytes.items ≡ old.bytes.items ++ flat_map call_bytes entries
   pub count : new.count ≡ min (old.count + length entries) (2 ^ 64 - 1)
   pub refused : new.refused ≡ old.refused
@@ -64,7 +64,7 @@ pub record Writes (entries : List Call) (old new : Pages) : Type 0 where
 -- a call went on and wrote these entries, or memory ran out
 abbrev pub Went : Bool → List Call → Pages → Pages → Type 0
 Went true [] old new = new ≡ old
-Went true (e ∷ es) old new = Writes (e ∷ es) old new
+Went true (e ∷ es) old new = WritesEntries (e ∷ es) old new
 Went false es old new = new.refused ≡ true
 
 -- the same of the entry that a call writes, if any

@@ -2,12 +2,13 @@
 use Rattle.std.specs.Prelude.{◌≡◌, ◌≢◌, ℕ, ◌+◌, Bool, true, not, ◌&&◌, if◌then◌else◌, nat_eq, List, ◌++◌, length}
 use Rattle.std.specs.List.{AllByRecursion, flat_map}
 use Rattle.mst_c.specs.Lists.{HasDigest}
-use Rattle.mst_c.specs.Wire.{number_bytes, row_bytes, digest_bytes, page_mark, key_mark, row_mark, digest_mark}
+use Rattle.mst_c.specs.Wire.{digest_bytes, page_mark, key_mark, digest_mark}
+use Rattle.c_values.specs.Lists.{number_bytes, sized_row, row_mark}
 use Rattle.mst_c.specs.declared.entries.MstSpot.{MstSpot}
 
 -- the mark of a list, by whether it is one of rows, and whether its entries have digests
-abbrev pub mark_of : Bool → Bool → List ℕ
-mark_of rows digests = if rows then (if digests then digest_mark else row_mark) else (if digests then page_mark else key_mark)
+abbrev pub list_mark : Bool → Bool → List ℕ
+list_mark rows digests = if rows then (if digests then digest_mark else row_mark) else (if digests then page_mark else key_mark)
 
 -- how long the digest after the two parts of an entry is
 abbrev pub digest_len : Bool → ℕ
@@ -23,15 +24,15 @@ EntryParts = (List ℕ × List ℕ) × List ℕ
 
 -- the bytes of two parts: two strings, or a key and the digest of its value
 abbrev pub two_bytes : Bool → List ℕ × List ℕ → List ℕ
-two_bytes plain two = if plain then digest_bytes two else row_bytes two
+two_bytes plain two = if plain then digest_bytes two else sized_row two
 
 -- a digest as the second part has its length
 abbrev pub IsTwo : Bool → List ℕ × List ℕ → Type 0
 IsTwo plain two = plain ≡ true → HasDigest two
 
 -- the bytes of an entry
-abbrev pub parts_bytes : Bool → EntryParts → List ℕ
-parts_bytes plain e = two_bytes plain e.0 ++ e.1
+abbrev pub two_part_entry : Bool → EntryParts → List ℕ
+two_part_entry plain e = two_bytes plain e.0 ++ e.1
 
 -- the digests of an entry have their length
 abbrev pub IsParts : Bool → Bool → EntryParts → Type 0
@@ -39,19 +40,19 @@ IsParts plain hashed e = IsTwo plain e.0 × (length e.1 ≡ digest_len hashed)
 
 -- the bytes are this many entries, whose second part is a digest or a string, and which have a digest after it or none
 abbrev pub AreEntries : Bool → Bool → ℕ → List ℕ → Type 0
-AreEntries plain hashed count bytes = (es : List EntryParts) × (length es ≡ count) × AllByRecursion (IsParts plain hashed) es × (bytes ≡ flat_map (parts_bytes plain) es)
+AreEntries plain hashed count bytes = (es : List EntryParts) × (length es ≡ count) × AllByRecursion (IsParts plain hashed) es × (bytes ≡ flat_map (two_part_entry plain) es)
 
 -- the bytes are a list of rows or of digests, or else of page ranges or of key ranges, whatever the order of its keys
 abbrev pub IsList : Bool → List ℕ → Type 0
-IsList rows list = (digests : Bool) × (count : ℕ) × (body : List ℕ) × (list ≡ mark_of rows digests ++ (number_bytes count ++ body)) × AreEntries (rows && digests) (not rows && digests) count body
+IsList rows list = (digests : Bool) × (count : ℕ) × (body : List ℕ) × (list ≡ list_mark rows digests ++ (number_bytes count ++ body)) × AreEntries (rows && digests) (not rows && digests) count body
 
 -- the mark of either kind of list stands in front, and a number after it
 abbrev pub HasFront : Bool → List ℕ → Type 0
-HasFront rows list = (digests : Bool) × (count : ℕ) × (body : List ℕ) × (list ≡ mark_of rows digests ++ (number_bytes count ++ body))
+HasFront rows list = (digests : Bool) × (count : ℕ) × (body : List ℕ) × (list ≡ list_mark rows digests ++ (number_bytes count ++ body))
 
 -- neither mark does
-abbrev pub LacksFront : Bool → List ℕ → Type 0
-LacksFront rows list = (digests : Bool) (count : ℕ) (body : List ℕ) → list ≢ mark_of rows digests ++ (number_bytes count ++ body)
+abbrev pub HasNoMark : Bool → List ℕ → Type 0
+HasNoMark rows list = (digests : Bool) (count : ℕ) (body : List ℕ) → list ≢ list_mark rows digests ++ (number_bytes count ++ body)
 
 -- the bytes begin with these two parts
 abbrev pub BeginsWithTwo : Bool → List ℕ → List ℕ × List ℕ → List ℕ → Type 0
@@ -64,11 +65,11 @@ BeginsWithNoTwo plain bytes = (two : List ℕ × List ℕ) (rest : List ℕ) →
 -- they begin with an entry that has these two parts
 abbrev pub BeginsWithEntry : Bool → Bool → List ℕ → List ℕ × List ℕ → List ℕ → Type 0
 BeginsWithEntry plain hashed bytes two rest =
-    (digest : List ℕ) × IsParts plain hashed (two, digest) × (bytes ≡ parts_bytes plain (two, digest) ++ rest)
+    (digest : List ℕ) × IsParts plain hashed (two, digest) × (bytes ≡ two_part_entry plain (two, digest) ++ rest)
 
 -- they begin with no entry
 abbrev pub BeginsWithNoEntry : Bool → Bool → List ℕ → Type 0
-BeginsWithNoEntry plain hashed bytes = (e : EntryParts) (rest : List ℕ) → IsParts plain hashed e → bytes ≢ parts_bytes plain e ++ rest
+BeginsWithNoEntry plain hashed bytes = (e : EntryParts) (rest : List ℕ) → IsParts plain hashed e → bytes ≢ two_part_entry plain e ++ rest
 
 -- the second part of an entry lies after the first one, and is as long as this
 abbrev pub HasSecond : Bool → List ℕ → MstSpot → Type 0
@@ -80,12 +81,12 @@ pub record IsEntryAt (rows : Bool) (list : List ℕ) (old new : ℕ) (spot : Mst
   pub digests : Bool
   pub count : ℕ
   pub body : List ℕ
-  pub marked : list ≡ mark_of rows digests ++ (number_bytes count ++ body)
+  pub marked : list ≡ list_mark rows digests ++ (number_bytes count ++ body)
   pub whole : old ≡ 0 → AreEntries (rows && digests) (not rows && digests) count body
   pub before : List ℕ
   pub entry : EntryParts
   pub behind : List ℕ
-  pub parts : list ≡ before ++ (parts_bytes (rows && digests) entry ++ behind)
+  pub parts : list ≡ before ++ (two_part_entry (rows && digests) entry ++ behind)
   pub sized : IsParts (rows && digests) (not rows && digests) entry
   pub starts : length before ≡ (if nat_eq old 0 then 12 else old)
   pub first : (spot.first_at ≡ length before + 8) × (spot.first_len ≡ length entry.0.0)

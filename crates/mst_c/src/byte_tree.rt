@@ -1,5 +1,5 @@
 //! What a handle holds: a tree of byte strings.
-ghost use Rattle.std.specs.Prelude.{◌≡◌, ◌≢◌, ℕ, List, None, Err, OnOk, OnErr, IfOk, IfSome, false, true, length};
+ghost use Rattle.std.specs.Prelude.{◌≡◌, ◌≢◌, ℕ, List, None, Err, OnOk, OnErr, IfOk, IfSome, false, true};
 ghost use Rattle.std.specs.Int.NonZero.{non_zero_u8_get};
 ghost use Rattle.key_order.specs.Map.{IsMap, get};
 ghost use Rattle.merkle_tree_theory.specs.Dropped.{RemovalDropsFew};
@@ -8,9 +8,11 @@ ghost use Rattle.merkle_tree_theory.specs.State.{IsNew, map_of};
 ghost use Rattle.merkle_tree_theory.specs.Stream.{page_digest};
 ghost use Rattle.merkle_search_tree.specs.Loading.{row_count};
 ghost use Rattle.mst_c.specs.Lists.{AllSet, AreDigests, AreLoaded, AreManyRows, ArePageRanges, AreRows, AreSetOf, FirstSet, HasPairs, IsLengthOf, IsLoaded, page_ranges_of};
-ghost use Rattle.mst_c.specs.Pages.{pages_bytes};
-ghost use Rattle.mst_c.specs.Trees.{bytes_cmp, bytes_of, key_cmp, SameRows, IsSet, IsSetTo, SetDropsFew, IsDel, IsCopied, rows_of};
-ghost use Rattle.mst_c.specs.Wire.{digests_bytes, rows_bytes};
+ghost use Rattle.mst_c.specs.Pages.{page_list};
+ghost use Rattle.mst_c.specs.Trees.{SamePairs, IsSet, IsSetTo, SetDropsFew, IsDel, IsCopied};
+ghost use Rattle.c_values.specs.Keys.{bytes_cmp, key_items, key_cmp, pairs_of};
+ghost use Rattle.mst_c.specs.Wire.{digest_list};
+ghost use Rattle.c_values.specs.Lists.{row_list};
 ghost use Rattle.mst_c.specs.declared.reading.ReadError.TheVariants.{Malformed};
 
 use crate::byte_hasher::ByteHasher;
@@ -112,7 +114,7 @@ impl ByteTree {
 
     /// The digest of the value at a key, where the key is there.
     pub fn find(&self, alloc: Global, key: &[u8]) -> Result<Option<[u8; 16]>, AllocError>
-        ensures { IfOk result (λ found. found ≡ get bytes_cmp (rows_of self.now.tree) key.now) }
+        ensures { IfOk result (λ found. found ≡ get bytes_cmp (pairs_of self.now.tree) key.now) }
     {
         let own_key = Vec::from_slice(alloc, key)?;
         match self.tree.value_hash(&own_key) {
@@ -126,7 +128,7 @@ impl ByteTree {
     pub fn upsert_rows(&mut self, alloc: Global, list: &[u8]) -> Option<(usize, bool)>
         ensures all { IfSome result (λ set. set.1 ≡ true → AllSet list.now set.0 self.old.tree self.new.tree) }
         ensures first { IfSome result (λ set. set.1 ≡ false → FirstSet list.now set.0 self.old.tree self.new.tree) }
-        ensures malformed { result ≡ None → (given : List (List ℕ × List ℕ)) → list.now ≢ rows_bytes given }
+        ensures malformed { result ≡ None → (given : List (List ℕ × List ℕ)) → list.now ≢ row_list given }
         ensures unchanged { result ≡ None → self.new ≡ self.old }
     {
         let (count, body) = body_of(&ROWS, list)?;
@@ -212,7 +214,7 @@ impl ByteTree {
 
     /// The keys in their order, each with the digest of its value, as bytes.
     pub fn digests(&self, alloc: Global) -> Result<Vec<u8>, AllocError>
-        ensures { IfOk result (λ out. out.items ≡ digests_bytes (rows_of self.now.tree)) }
+        ensures { IfOk result (λ out. out.items ≡ digest_list (pairs_of self.now.tree)) }
     {
         let count = self.count()?;
         let mut out = Vec::new(alloc);
@@ -226,7 +228,7 @@ impl ByteTree {
 
     /// The pages as they are, as bytes.
     pub fn pages(&self, alloc: Global) -> Result<Vec<u8>, AllocError>
-        ensures { IfOk result (λ out. out.items ≡ pages_bytes self.now.tree.root) }
+        ensures { IfOk result (λ out. out.items ≡ page_list self.now.tree.root) }
     {
         let mut pages = Pages::new(alloc);
         self.tree.in_order_traversal(&mut pages);
@@ -236,8 +238,8 @@ impl ByteTree {
     /// The ranges of all pages, as bytes.
     pub fn page_ranges(&mut self, alloc: Global) -> Result<Vec<u8>, AllocError>
         ensures ranges { IfOk result (λ out. ArePageRanges out.items (page_ranges_of self.new.tree)) }
-        ensures kept { SameRows self.old.tree self.new.tree }
-        ensures hashed { IsHashed bytes_of self.old.tree self.new.tree }
+        ensures kept { SamePairs self.old.tree self.new.tree }
+        ensures hashed { IsHashed key_items self.old.tree self.new.tree }
     {
         let _ = self.root_hash();
         match self.tree.serialise_page_ranges()? {
@@ -249,8 +251,8 @@ impl ByteTree {
     /// How many bytes the ranges of all pages are. It takes no memory for them.
     pub fn page_ranges_len(&mut self) -> Result<usize, AllocError>
         ensures len { IfOk result (λ len. IsLengthOf (page_ranges_of self.new.tree) len) }
-        ensures kept { SameRows self.old.tree self.new.tree }
-        ensures hashed { IsHashed bytes_of self.old.tree self.new.tree }
+        ensures kept { SamePairs self.old.tree self.new.tree }
+        ensures hashed { IsHashed key_items self.old.tree self.new.tree }
     {
         let _ = self.root_hash();
         match self.tree.page_range_iter()? {
@@ -272,9 +274,9 @@ impl ByteTree {
 
     /// The digest of the root page. It fills in the digests that pages lack.
     pub fn root_hash(&mut self) -> [u8; 16]
-        ensures digest { result ≡ page_digest self.old.tree.format bytes_of self.old.tree.root }
-        ensures kept { SameRows self.old.tree self.new.tree }
-        ensures hashed { IsHashed bytes_of self.old.tree self.new.tree }
+        ensures digest { result ≡ page_digest self.old.tree.format key_items self.old.tree.root }
+        ensures kept { SamePairs self.old.tree self.new.tree }
+        ensures hashed { IsHashed key_items self.old.tree self.new.tree }
         ensures cached { self.new.tree.root_hash ≢ None }
     {
         let (digest, _) = self.tree.root_hash_counted();

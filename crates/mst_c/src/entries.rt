@@ -1,10 +1,10 @@
 //! The entries of a list of ranges or of rows, one after the other, where they lie.
 
-ghost use Rattle.std.specs.Prelude.{◌≡◌, ◌≢◌, ◌↔◌, true, false, not, ◌&&◌, None, ◌<◌, ◌+◌, ◌-◌, ◌^◌, ◌⊎◌, ◌++◌};
+ghost use Rattle.std.specs.Prelude.{◌≡◌, ◌≢◌, ◌↔◌, true, false, ◌&&◌, None, ◌<◌, ◌+◌, ◌-◌, ◌^◌, ◌⊎◌, ◌++◌};
 ghost use Rattle.std.specs.Prelude.{IfSome, if◌then◌else◌, length, nat_eq};
 ghost use Rattle.mst_c.specs.Spots.{AreEntries, BeginsWithEntry, BeginsWithNoEntry, BeginsWithNoTwo, BeginsWithTwo, HasEntryAt, HasFront};
-ghost use Rattle.mst_c.specs.Spots.{HasSecond, IsEntryAt, IsList, LacksFront, gap_len, mark_of};
-ghost use Rattle.mst_c.specs.Wire.{number_bytes};
+ghost use Rattle.mst_c.specs.Spots.{HasSecond, IsEntryAt, IsList, HasNoMark, gap_len, list_mark};
+ghost use Rattle.c_values.specs.Lists.{number_bytes};
 
 use crate::reading::{body_of, keyed_of, pair_of};
 use crate::wire::{DIGESTS, KEY_RANGES, PAGE_RANGES, ROWS};
@@ -27,7 +27,7 @@ pub struct MstSpot {
 
 /// The mark of a list of rows or of ranges, with digests or without.
 fn mark(rows: bool, digests: bool) -> [u8; 4]
-    ensures { result ≡ mark_of rows digests }
+    ensures { result ≡ list_mark rows digests }
 {
     if rows {
         if digests { DIGESTS } else { ROWS }
@@ -40,8 +40,8 @@ fn mark(rows: bool, digests: bool) -> [u8; 4]
 
 /// Whether the entries of the list have digests, how many there are, and their bytes; `None` where it has no such front.
 fn front_of(rows: bool, list: &[u8]) -> Option<(bool, u64, &[u8])>
-    ensures front { IfSome result (λ r. list.now ≡ mark_of rows r.0 ++ (number_bytes r.1 ++ r.2.now)) }
-    ensures none { result ≡ None → LacksFront rows list.now }
+    ensures front { IfSome result (λ r. list.now ≡ list_mark rows r.0 ++ (number_bytes r.1 ++ r.2.now)) }
+    ensures none { result ≡ None → HasNoMark rows list.now }
 {
     match body_of(&mark(rows, true), list) {
         Some((count, body)) => Some((true, count, body)),

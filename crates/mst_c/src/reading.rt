@@ -7,8 +7,9 @@ ghost use Rattle.merkle_search_tree.specs.Loading.{row_count};
 ghost use Rattle.mst_c.specs.Lists.{AreNotBothRanges, AreNotSoManyDigests, AreNotSoManyRanges, AreNotSoManyRows, ArePageRanges};
 ghost use Rattle.mst_c.specs.Lists.{BeginsWithNoDigest, BeginsWithNoRange, BeginsWithRange, DigestsRows, DigestsSoManyRows};
 ghost use Rattle.mst_c.specs.Lists.{HasDigest, IsDiffOf, IsNoDigestList, IsPageRange};
-ghost use Rattle.mst_c.specs.Trees.{by_bytes};
-ghost use Rattle.mst_c.specs.Wire.{number_bytes, text_bytes, row_bytes, digest_bytes, entry_bytes, rows_bytes, digests_bytes};
+ghost use Rattle.c_values.specs.Keys.{by_key};
+ghost use Rattle.mst_c.specs.Wire.{digest_bytes, range_entry, digest_list};
+ghost use Rattle.c_values.specs.Lists.{number_bytes, sized_bytes, sized_row, row_list};
 ghost use Rattle.mst_c.specs.declared.reading.ReadError.TheVariants.{Memory, Malformed};
 
 use crate::byte_hasher::ByteHasher;
@@ -71,9 +72,9 @@ fn number_of(bytes: &[u8]) -> Option<(u64, &[u8])>
 
 /// The string at the front, and the bytes after it.
 fn text_of(bytes: &[u8]) -> Option<(&[u8], &[u8])>
-    ensures text { IfSome result (λ r. bytes.now ≡ text_bytes r.0.now ++ r.1.now) }
+    ensures text { IfSome result (λ r. bytes.now ≡ sized_bytes r.0.now ++ r.1.now) }
     ensures short { IfSome result (λ r. length r.0.now < 2 ^ 64) }
-    ensures none { result ≡ None → (text rest : List ℕ) → bytes.now ≢ text_bytes text ++ rest }
+    ensures none { result ≡ None → (text rest : List ℕ) → bytes.now ≢ sized_bytes text ++ rest }
 {
     let (len, rest) = number_of(bytes)?;
     rest.split_at_checked(len as usize)
@@ -81,8 +82,8 @@ fn text_of(bytes: &[u8]) -> Option<(&[u8], &[u8])>
 
 /// The two strings at the front, and the bytes after them.
 pub fn pair_of(bytes: &[u8]) -> Option<(&[u8], &[u8], &[u8])>
-    ensures pair { IfSome result (λ r. bytes.now ≡ row_bytes (r.0.now, r.1.now) ++ r.2.now) }
-    ensures none { result ≡ None → (row : List ℕ × List ℕ) (rest : List ℕ) → bytes.now ≢ row_bytes row ++ rest }
+    ensures pair { IfSome result (λ r. bytes.now ≡ sized_row (r.0.now, r.1.now) ++ r.2.now) }
+    ensures none { result ≡ None → (row : List ℕ × List ℕ) (rest : List ℕ) → bytes.now ≢ sized_row row ++ rest }
 {
     let (first, rest) = text_of(bytes)?;
     let (second, rest) = text_of(rest)?;
@@ -131,7 +132,7 @@ fn push_digest(
     key: &[u8],
     digest: [u8; 16],
 ) -> Result<(), AllocError>
-    ensures { OnOk result (map by_bytes rows.new.items ≡ map by_bytes rows.old.items ++ (key.now, digest) ∷ []) }
+    ensures { OnOk result (map by_key rows.new.items ≡ map by_key rows.old.items ++ (key.now, digest) ∷ []) }
 {
     let own_key = Vec::from_slice(alloc, key)?;
     match rows.push((own_key, digest)) {
@@ -146,7 +147,7 @@ fn ranges_of<'b>(
     count: u64,
     body: &'b [u8],
 ) -> Result<Vec<OwnedPageRange<Key<'b>>>, ReadError>
-    ensures ranges { IfOk result (λ ranges. body.now ≡ flat_map entry_bytes ranges.items) }
+    ensures ranges { IfOk result (λ ranges. body.now ≡ flat_map range_entry ranges.items) }
     ensures counted { IfOk result (λ ranges. length ranges.items ≡ count) }
     ensures each { IfOk result (λ ranges. AllByRecursion IsPageRange ranges.items) }
     ensures malformed { result ≡ Err Malformed → AreNotSoManyRanges count body.now }
@@ -207,7 +208,7 @@ pub fn decode_rows(
     bytes: &[u8],
 ) -> Result<Vec<(Vec<u8>, [u8; 16])>, ReadError>
     ensures rows { IfOk result (DigestsRows bytes.now hasher.now.key) }
-    ensures malformed { result ≡ Err Malformed → (given : List (List ℕ × List ℕ)) → bytes.now ≢ rows_bytes given }
+    ensures malformed { result ≡ Err Malformed → (given : List (List ℕ × List ℕ)) → bytes.now ≢ row_list given }
 {
     let Some((count, body)) = body_of(&ROWS, bytes) else {
         return Err(ReadError::Malformed);
@@ -228,9 +229,9 @@ pub fn keyed_of(bytes: &[u8]) -> Option<(&[u8], &[u8; 16], &[u8])>
 
 /// This many keys with digests, which the bytes are.
 fn digests_of(alloc: Global, count: u64, body: &[u8]) -> Result<Vec<(Vec<u8>, [u8; 16])>, ReadError>
-    ensures rows { IfOk result (λ rows. body.now ≡ flat_map digest_bytes (map by_bytes rows.items)) }
-    ensures counted { IfOk result (λ rows. row_count (map by_bytes rows.items) ≡ count) }
-    ensures each { IfOk result (λ rows. AllByRecursion HasDigest (map by_bytes rows.items)) }
+    ensures rows { IfOk result (λ rows. body.now ≡ flat_map digest_bytes (map by_key rows.items)) }
+    ensures counted { IfOk result (λ rows. row_count (map by_key rows.items) ≡ count) }
+    ensures each { IfOk result (λ rows. AllByRecursion HasDigest (map by_key rows.items)) }
     ensures malformed { result ≡ Err Malformed → AreNotSoManyDigests count body.now }
 {
     let mut rows = Vec::new(alloc);
@@ -247,8 +248,8 @@ fn digests_of(alloc: Global, count: u64, body: &[u8]) -> Result<Vec<(Vec<u8>, [u
 
 /// The keys with digests that the bytes spell.
 pub fn decode_digests(alloc: Global, bytes: &[u8]) -> Result<Vec<(Vec<u8>, [u8; 16])>, ReadError>
-    ensures rows { IfOk result (λ rows. bytes.now ≡ digests_bytes (map by_bytes rows.items)) }
-    ensures each { IfOk result (λ rows. AllByRecursion HasDigest (map by_bytes rows.items)) }
+    ensures rows { IfOk result (λ rows. bytes.now ≡ digest_list (map by_key rows.items)) }
+    ensures each { IfOk result (λ rows. AllByRecursion HasDigest (map by_key rows.items)) }
     ensures malformed { result ≡ Err Malformed → IsNoDigestList bytes.now }
 {
     let Some((count, body)) = body_of(&DIGESTS, bytes) else {

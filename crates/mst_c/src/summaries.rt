@@ -1,12 +1,12 @@
 //! Calls that answer what a tree holds as digests, and compare two such answers.
-ghost use Rattle.std.specs.Prelude.{◌≡◌, ◌≢◌, ◌<◌, ◌↔◌, ◌⊎◌, None, Err, IfSome, IfOk, IfErr, length};
+ghost use Rattle.std.specs.Prelude.{◌≡◌, ◌≢◌, ◌↔◌, ◌⊎◌, None, Err};
 ghost use Rattle.merkle_tree_theory.specs.Hashed.{IsHashed};
 ghost use Rattle.merkle_tree_theory.specs.Stream.{page_digest};
-ghost use Rattle.mst_c.specs.Handles.{Changes, HasTree, IsOutput, IsOutputOf, IsShort, IsShortOf};
-ghost use Rattle.mst_c.specs.Lists.{AreNotBothRanges, ArePageRanges, IsDiffOf, IsLengthOf, TellsDigests, TellsRanges, page_ranges_of};
-ghost use Rattle.mst_c.specs.Pages.{TellsPages, pages_bytes};
-ghost use Rattle.mst_c.specs.Trees.{bytes_of, rows_of, SameRows};
-ghost use Rattle.mst_c.specs.Wire.{digests_bytes};
+ghost use Rattle.mst_c.specs.Handles.{ChangesTree, HasTree, IsOutputWhere, IsOutputOf, IsShortWhere, IsShortOf};
+ghost use Rattle.mst_c.specs.Lists.{AreNotBothRanges, IsDiffOf, TellsDigests, TellsRanges};
+ghost use Rattle.mst_c.specs.Pages.{TellsPageList};
+ghost use Rattle.mst_c.specs.Trees.{SamePairs};
+ghost use Rattle.c_values.specs.Keys.{key_items};
 
 use crate::handle::{MstTree, put_back, take_out};
 use crate::reading::differences;
@@ -23,9 +23,9 @@ pub extern "C" fn mst_proved_tree_root_hash(
     handle: &mut MstTree,
     digest: &mut MstBytes16,
 ) -> u32
-    ensures digest { result ≡ 0 → HasTree handle.old.tree (λ s. digest.new.bytes ≡ page_digest s.format bytes_of s.root) }
-    ensures kept { result ≡ 0 → Changes handle.old.tree handle.new.tree SameRows }
-    ensures hashed { result ≡ 0 → Changes handle.old.tree handle.new.tree (IsHashed bytes_of) }
+    ensures digest { result ≡ 0 → HasTree handle.old.tree (λ s. digest.new.bytes ≡ page_digest s.format key_items s.root) }
+    ensures kept { result ≡ 0 → ChangesTree handle.old.tree handle.new.tree SamePairs }
+    ensures hashed { result ≡ 0 → ChangesTree handle.old.tree handle.new.tree (IsHashed key_items) }
     ensures unchanged { result ≢ 0 → handle.new.tree ≡ handle.old.tree }
     ensures refused { result ≢ 0 → digest.new.bytes ≡ digest.old.bytes }
     ensures argument { (result ≡ 4) ↔ (handle.old.tree ≡ None) }
@@ -52,8 +52,8 @@ pub extern "C" fn mst_proved_tree_page_ranges(
 ) -> u32
     ensures done { result ≡ 0 → IsOutputOf handle.new.tree TellsRanges out.old out.new needed.new }
     ensures short { result ≡ 3 → IsShortOf handle.new.tree TellsRanges out.old needed.new }
-    ensures kept { result ≢ 4 → Changes handle.old.tree handle.new.tree SameRows }
-    ensures hashed { result ≢ 4 → Changes handle.old.tree handle.new.tree (IsHashed bytes_of) }
+    ensures kept { result ≢ 4 → ChangesTree handle.old.tree handle.new.tree SamePairs }
+    ensures hashed { result ≢ 4 → ChangesTree handle.old.tree handle.new.tree (IsHashed key_items) }
     ensures no_tree { result ≡ 4 → handle.new.tree ≡ None }
     ensures unchanged { result ≢ 0 → out.new ≡ out.old }
     ensures refused { result ≢ 0 → result ≢ 3 → needed.new ≡ needed.old }
@@ -115,8 +115,8 @@ pub extern "C" fn mst_proved_tree_pages(
     out: &mut [u8],
     needed: &mut usize,
 ) -> u32
-    ensures done { result ≡ 0 → IsOutputOf handle.old.tree TellsPages out.old out.new needed.new }
-    ensures short { result ≡ 3 → IsShortOf handle.old.tree TellsPages out.old needed.new }
+    ensures done { result ≡ 0 → IsOutputOf handle.old.tree TellsPageList out.old out.new needed.new }
+    ensures short { result ≡ 3 → IsShortOf handle.old.tree TellsPageList out.old needed.new }
     ensures tree { handle.new.tree ≡ handle.old.tree }
     ensures unchanged { result ≢ 0 → out.new ≡ out.old }
     ensures refused { result ≢ 0 → result ≢ 3 → needed.new ≡ needed.old }
@@ -143,8 +143,8 @@ pub extern "C" fn mst_proved_diff(
     out: &mut [u8],
     needed: &mut usize,
 ) -> u32
-    ensures done { result ≡ 0 → IsOutput out.old out.new needed.new (IsDiffOf local.now peer.now) }
-    ensures short { result ≡ 3 → IsShort out.old needed.new (IsDiffOf local.now peer.now) }
+    ensures done { result ≡ 0 → IsOutputWhere out.old out.new needed.new (IsDiffOf local.now peer.now) }
+    ensures short { result ≡ 3 → IsShortWhere out.old needed.new (IsDiffOf local.now peer.now) }
     ensures malformed { result ≡ 2 → AreNotBothRanges local.now peer.now }
     ensures unchanged { result ≢ 0 → out.new ≡ out.old }
     ensures refused { result ≢ 0 → result ≢ 3 → needed.new ≡ needed.old }

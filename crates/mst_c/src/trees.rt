@@ -1,10 +1,10 @@
 //! Calls that make trees, copy them, let them go, count their keys and look one up.
-ghost use Rattle.std.specs.Prelude.{◌≡◌, ◌≢◌, ◌<◌, ◌≤◌, ◌↔◌, ◌⊎◌, true, None, Some, Err, IfOk, IfErr};
-ghost use Rattle.std.specs.Int.NonZero.{non_zero_u8_get};
+ghost use Rattle.std.specs.Prelude.{◌≡◌, ◌≢◌, ◌≤◌, ◌↔◌, ◌⊎◌, true, None, Some, Err};
 ghost use Rattle.merkle_tree_theory.specs.declared.page_format.PageFormat.TheVariants.{V1, V2};
 ghost use Rattle.merkle_search_tree.specs.Loading.{row_count};
-ghost use Rattle.mst_c.specs.Handles.{Changes, HasAt, HasNewTree, HasTree, MakesNoTree};
-ghost use Rattle.mst_c.specs.Trees.{IsCopied, rows_of};
+ghost use Rattle.mst_c.specs.Handles.{ChangesTree, HasTreeDigest, HasNewTree, HasTree, MakesNoTree};
+ghost use Rattle.mst_c.specs.Trees.{IsCopied};
+ghost use Rattle.c_values.specs.Keys.{pairs_of};
 
 use crate::byte_tree::ByteTree;
 use crate::handle::{MstTree, put_back, take_out};
@@ -92,7 +92,7 @@ pub extern "C" fn mst_proved_tree_clone(
     handle: &mut MstTree,
     copy: &mut MstTree,
 ) -> u32
-    ensures copied { result ≡ 0 → Changes handle.old.tree copy.new.tree IsCopied }
+    ensures copied { result ≡ 0 → ChangesTree handle.old.tree copy.new.tree IsCopied }
     ensures original { handle.new.tree ≡ handle.old.tree }
     ensures empty { result ≡ 0 → copy.old.tree ≡ None }
     ensures unchanged { result ≢ 0 → copy.new.tree ≡ copy.old.tree }
@@ -128,7 +128,7 @@ pub extern "C" fn mst_proved_tree_free(alloc: Global, handle: &mut MstTree)
 /// `DONE`; `MEMORY`; `ARGUMENT` where the handle has no tree. Refused, `count` is as before.
 #[unsafe(no_mangle)]
 pub extern "C" fn mst_proved_tree_len(alloc: Global, handle: &mut MstTree, count: &mut usize) -> u32
-    ensures done { result ≡ 0 → HasTree handle.old.tree (λ s. count.new ≡ row_count (rows_of s)) }
+    ensures done { result ≡ 0 → HasTree handle.old.tree (λ s. count.new ≡ row_count (pairs_of s)) }
     ensures tree { handle.new.tree ≡ handle.old.tree }
     ensures unchanged { result ≢ 0 → count.new ≡ count.old }
     ensures argument { (result ≡ 4) ↔ (handle.old.tree ≡ None) }
@@ -159,8 +159,8 @@ pub extern "C" fn mst_proved_tree_find(
     key: &[u8],
     digest: &mut MstBytes16,
 ) -> u32
-    ensures done { result ≡ 0 → HasAt handle.old.tree key.now (Some digest.new.bytes) }
-    ensures absent { result ≡ 5 → HasAt handle.old.tree key.now None }
+    ensures done { result ≡ 0 → HasTreeDigest handle.old.tree key.now (Some digest.new.bytes) }
+    ensures absent { result ≡ 5 → HasTreeDigest handle.old.tree key.now None }
     ensures tree { handle.new.tree ≡ handle.old.tree }
     ensures unchanged { result ≢ 0 → digest.new.bytes ≡ digest.old.bytes }
     ensures argument { (result ≡ 4) ↔ (handle.old.tree ≡ None) }

@@ -1,10 +1,10 @@
 //! Calls that change the map of a tree.
 ghost use Rattle.std.specs.Prelude.{◌≡◌, ◌≢◌, ◌↔◌, ◌⊎◌, ℕ, List, None, true, false};
 ghost use Rattle.merkle_tree_theory.specs.Dropped.{RemovalDropsFew};
-ghost use Rattle.mst_c.specs.Handles.{Changes};
+ghost use Rattle.mst_c.specs.Handles.{ChangesTree};
 ghost use Rattle.mst_c.specs.Lists.{AllSet, AreDigests, AreLoaded, AreRows, FirstSet, IsLoaded};
 ghost use Rattle.mst_c.specs.Trees.{IsSet, IsSetTo, SetDropsFew, IsDel};
-ghost use Rattle.mst_c.specs.Wire.{rows_bytes};
+ghost use Rattle.c_values.specs.Lists.{row_list};
 
 use crate::handle::{MstTree, put_back, take_out};
 use c_values::MstBytes16;
@@ -21,8 +21,8 @@ pub extern "C" fn mst_proved_tree_upsert(
     key: &[u8],
     value: &[u8],
 ) -> u32
-    ensures done { result ≡ 0 → Changes handle.old.tree handle.new.tree (IsSet key.now value.now) }
-    ensures few_more { result ≡ 0 → Changes handle.old.tree handle.new.tree (SetDropsFew key.now) }
+    ensures done { result ≡ 0 → ChangesTree handle.old.tree handle.new.tree (IsSet key.now value.now) }
+    ensures few_more { result ≡ 0 → ChangesTree handle.old.tree handle.new.tree (SetDropsFew key.now) }
     ensures unchanged { result ≢ 0 → handle.new.tree ≡ handle.old.tree }
     ensures argument { (result ≡ 4) ↔ (handle.old.tree ≡ None) }
     ensures status { (result ≡ 0) ⊎ (result ≡ 1) ⊎ (result ≡ 4) }
@@ -48,8 +48,8 @@ pub extern "C" fn mst_proved_tree_upsert_digest(
     key: &[u8],
     digest: &MstBytes16,
 ) -> u32
-    ensures done { result ≡ 0 → Changes handle.old.tree handle.new.tree (IsSetTo key.now digest.now.bytes) }
-    ensures few_more { result ≡ 0 → Changes handle.old.tree handle.new.tree (SetDropsFew key.now) }
+    ensures done { result ≡ 0 → ChangesTree handle.old.tree handle.new.tree (IsSetTo key.now digest.now.bytes) }
+    ensures few_more { result ≡ 0 → ChangesTree handle.old.tree handle.new.tree (SetDropsFew key.now) }
     ensures unchanged { result ≢ 0 → handle.new.tree ≡ handle.old.tree }
     ensures argument { (result ≡ 4) ↔ (handle.old.tree ≡ None) }
     ensures status { (result ≡ 0) ⊎ (result ≡ 1) ⊎ (result ≡ 4) }
@@ -71,9 +71,9 @@ pub extern "C" fn mst_proved_tree_upsert_digest(
 /// before.
 #[unsafe(no_mangle)]
 pub extern "C" fn mst_proved_tree_remove(alloc: Global, handle: &mut MstTree, key: &[u8]) -> u32
-    ensures done { result ≡ 0 → Changes handle.old.tree handle.new.tree (IsDel key.now true) }
-    ensures few_more { result ≡ 0 → Changes handle.old.tree handle.new.tree RemovalDropsFew }
-    ensures absent { result ≡ 5 → Changes handle.old.tree handle.new.tree (IsDel key.now false) }
+    ensures done { result ≡ 0 → ChangesTree handle.old.tree handle.new.tree (IsDel key.now true) }
+    ensures few_more { result ≡ 0 → ChangesTree handle.old.tree handle.new.tree RemovalDropsFew }
+    ensures absent { result ≡ 5 → ChangesTree handle.old.tree handle.new.tree (IsDel key.now false) }
     ensures unchanged { result ≢ 0 → handle.new.tree ≡ handle.old.tree }
     ensures argument { (result ≡ 4) ↔ (handle.old.tree ≡ None) }
     ensures status { (result ≡ 0) ⊎ (result ≡ 1) ⊎ (result ≡ 4) ⊎ (result ≡ 5) }
@@ -101,9 +101,9 @@ pub extern "C" fn mst_proved_tree_upsert_rows(
     list: &[u8],
     done: &mut usize,
 ) -> u32
-    ensures done { result ≡ 0 → Changes handle.old.tree handle.new.tree (AllSet list.now done.new) }
-    ensures refused { result ≡ 1 → Changes handle.old.tree handle.new.tree (FirstSet list.now done.new) }
-    ensures malformed { result ≡ 2 → (given : List (List ℕ × List ℕ)) → list.now ≢ rows_bytes given }
+    ensures done { result ≡ 0 → ChangesTree handle.old.tree handle.new.tree (AllSet list.now done.new) }
+    ensures refused { result ≡ 1 → ChangesTree handle.old.tree handle.new.tree (FirstSet list.now done.new) }
+    ensures malformed { result ≡ 2 → (given : List (List ℕ × List ℕ)) → list.now ≢ row_list given }
     ensures unchanged { result ≢ 0 → result ≢ 1 → (handle.new.tree ≡ handle.old.tree) × (done.new ≡ done.old) }
     ensures argument { (result ≡ 4) ↔ (handle.old.tree ≡ None) }
     ensures status { (result ≡ 0) ⊎ (result ≡ 1) ⊎ (result ≡ 2) ⊎ (result ≡ 4) }
@@ -126,7 +126,7 @@ pub extern "C" fn mst_proved_tree_upsert_rows(
 /// handle has no tree. Refused, the tree is as before.
 #[unsafe(no_mangle)]
 pub extern "C" fn mst_proved_tree_load(alloc: Global, handle: &mut MstTree, rows: &[u8]) -> u32
-    ensures done { result ≡ 0 → Changes handle.old.tree handle.new.tree (IsLoaded rows.now) }
+    ensures done { result ≡ 0 → ChangesTree handle.old.tree handle.new.tree (IsLoaded rows.now) }
     ensures malformed { result ≡ 2 → (given : List (List ℕ × List ℕ)) → ¬ (AreRows rows.now given) }
     ensures unchanged { result ≢ 0 → handle.new.tree ≡ handle.old.tree }
     ensures argument { (result ≡ 4) ↔ (handle.old.tree ≡ None) }
@@ -153,7 +153,7 @@ pub extern "C" fn mst_proved_tree_load_digests(
     handle: &mut MstTree,
     list: &[u8],
 ) -> u32
-    ensures done { result ≡ 0 → Changes handle.old.tree handle.new.tree (AreLoaded list.now) }
+    ensures done { result ≡ 0 → ChangesTree handle.old.tree handle.new.tree (AreLoaded list.now) }
     ensures malformed { result ≡ 2 → (given : List (List ℕ × List ℕ)) → ¬ (AreDigests list.now given) }
     ensures unchanged { result ≢ 0 → handle.new.tree ≡ handle.old.tree }
     ensures argument { (result ≡ 4) ↔ (handle.old.tree ≡ None) }

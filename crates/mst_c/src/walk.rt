@@ -2,8 +2,8 @@
 
 ghost use Rattle.std.specs.Prelude.{◌≡◌, ◌∷◌, ◌++◌, [], false, OnOk, IfOk};
 ghost use Rattle.std.specs.Option.{option_map};
-ghost use Rattle.mst_c.specs.Pages.{Visited, cache_bytes, page_bytes, tree_mark};
-ghost use Rattle.mst_c.specs.Wire.{number_bytes, text_bytes};
+ghost use Rattle.mst_c.specs.Pages.{Visited, cache_bytes, page_part, tree_mark};
+ghost use Rattle.c_values.specs.Lists.{number_bytes, sized_bytes};
 
 use crate::wire::{put, put_number, put_text};
 use merkle_digest::PageDigest;
@@ -54,7 +54,7 @@ impl Pages {
 
 /// Writes a page, which is the high page of another or not, and how many keys stand on it.
 fn put_page(page: &Page<16, Vec<u8>>, is_high: bool, out: &mut Vec<u8>) -> Result<(), AllocError>
-    ensures { OnOk result (out.new.items ≡ out.old.items ++ page_bytes is_high page.now) }
+    ensures { OnOk result (out.new.items ≡ out.old.items ++ page_part is_high page.now) }
 {
     let kind = if is_high { 2 } else { 1 };
     put(&[kind, page.level()], out)?;
@@ -77,7 +77,7 @@ fn put_cache(digest: Option<&PageDigest>, out: &mut Vec<u8>) -> Result<(), Alloc
 
 /// Writes the key of a node.
 fn put_key(node: &Node<16, Vec<u8>>, out: &mut Vec<u8>) -> Result<(), AllocError>
-    ensures { OnOk result (out.new.items ≡ out.old.items ++ (0 ∷ text_bytes node.now.key.items)) }
+    ensures { OnOk result (out.new.items ≡ out.old.items ++ (0 ∷ sized_bytes node.now.key.items)) }
 {
     put(&[0], out)?;
     put_text(node.key().as_slice(), out)

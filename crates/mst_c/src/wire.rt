@@ -9,8 +9,9 @@ ghost use Rattle.merkle_diff.specs.DiffRange.{span, spans};
 ghost use Rattle.merkle_diff.specs.PageRange.{entry, entries};
 ghost use Rattle.merkle_tree_theory.specs.Page.{pair_of};
 ghost use Rattle.mst_c.specs.Lists.{ArePageRanges, IsLengthOf, IsPageRange, entry_by_bytes};
-ghost use Rattle.mst_c.specs.Trees.{by_bytes};
-ghost use Rattle.mst_c.specs.Wire.{number_bytes, text_bytes, digest_bytes, entry_bytes, span_bytes, key_ranges_bytes};
+ghost use Rattle.c_values.specs.Keys.{by_key};
+ghost use Rattle.mst_c.specs.Wire.{digest_bytes, range_entry, span_bytes, key_ranges_bytes};
+ghost use Rattle.c_values.specs.Lists.{number_bytes, sized_bytes};
 
 use crate::key::Key;
 use merkle_diff::{DiffRange, PageRange};
@@ -46,7 +47,7 @@ pub fn put_number(number: usize, out: &mut Vec<u8>) -> Result<(), AllocError>
 
 /// Writes a string.
 pub fn put_text(text: &[u8], out: &mut Vec<u8>) -> Result<(), AllocError>
-    ensures { OnOk result (out.new.items ≡ out.old.items ++ text_bytes text.now) }
+    ensures { OnOk result (out.new.items ≡ out.old.items ++ sized_bytes text.now) }
 {
     put_number(text.len(), out)?;
     put(text, out)
@@ -54,7 +55,7 @@ pub fn put_text(text: &[u8], out: &mut Vec<u8>) -> Result<(), AllocError>
 
 /// Writes a page range.
 fn put_range(range: &PageRange<'_, Vec<u8>>, out: &mut Vec<u8>) -> Result<(), AllocError>
-    ensures written { OnOk result (out.new.items ≡ out.old.items ++ entry_bytes (entry_by_bytes (entry range.now))) }
+    ensures written { OnOk result (out.new.items ≡ out.old.items ++ range_entry (entry_by_bytes (entry range.now))) }
     ensures range { OnOk result (IsPageRange (entry_by_bytes (entry range.now))) }
 {
     put_text(range.start().as_slice(), out)?;
@@ -72,7 +73,7 @@ fn put_found(range: &DiffRange<'_, Key<'_>>, out: &mut Vec<u8>) -> Result<(), Al
 
 /// Writes the key of a node and the digest of its value.
 pub fn put_digest(node: &Node<16, Vec<u8>>, out: &mut Vec<u8>) -> Result<(), AllocError>
-    ensures { OnOk result (out.new.items ≡ out.old.items ++ digest_bytes (by_bytes (pair_of node.now))) }
+    ensures { OnOk result (out.new.items ≡ out.old.items ++ digest_bytes (by_key (pair_of node.now))) }
 {
     put_text(node.key().as_slice(), out)?;
     put(node.value_hash().as_bytes(), out)
@@ -104,7 +105,7 @@ pub fn encoded_len(ranges: PageRangeIter<'_, 16, Vec<u8>>) -> Result<usize, Allo
 
 /// The number, and how many bytes a page range is; `None` beyond what a number can be.
 fn with_range(len: usize, range: &PageRange<'_, Vec<u8>>) -> Option<usize>
-    ensures sum { IfSome result (λ sum. sum ≡ len + length (entry_bytes (entry_by_bytes (entry range.now)))) }
+    ensures sum { IfSome result (λ sum. sum ≡ len + length (range_entry (entry_by_bytes (entry range.now)))) }
     ensures range { IfSome result (λ sum. IsPageRange (entry_by_bytes (entry range.now))) }
 {
     let first = with_text(len, range.start().as_slice())?;
@@ -115,7 +116,7 @@ fn with_range(len: usize, range: &PageRange<'_, Vec<u8>>) -> Option<usize>
 
 /// The number, and how many bytes a string is with its length.
 fn with_text(len: usize, text: &[u8]) -> Option<usize>
-    ensures { IfSome result (λ sum. sum ≡ len + length (text_bytes text.now)) }
+    ensures { IfSome result (λ sum. sum ≡ len + length (sized_bytes text.now)) }
 {
     let behind = len.checked_add(8)?;
     let sum = with_bytes(behind, text)?;

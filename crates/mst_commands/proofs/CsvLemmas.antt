@@ -112,10 +112,12 @@ module _ {W : Type 0} (contents : W → Option (List ℕ)) where
       (Appends-kept _ _ _ text wrote kept)))
 
   -- a record after those that were written
-  pub written_more : (out : W) (before after : Writer W) (text more all : List ℕ) → HasWritten contents out before text → WritesRecords contents before after more → text ++ more ≡ all → HasWritten contents out after all
+  pub written_more : (out : W) (before after : Writer W) (text more all : List ℕ) → HasWritten contents out before text
+      → WritesRecords contents before after more → text ++ more ≡ all → HasWritten contents out after all
   written_more out before after text more all had writes is =
       (had.0, had.1, subst (WritesRecords contents had.0 after) is (writes_then had.0 before after text more had.2 writes))
 
   -- what was written is after what the output had
-  pub written_out : (out last : W) (writer : Writer W) (text : List ℕ) → HasWritten contents out writer text → Keeps (text_written contents writer) (contents last) → Appends (contents out) (contents last) text
+  pub written_out : (out last : W) (writer : Writer W) (text : List ℕ) → HasWritten contents out writer text
+      → Keeps (text_written contents writer) (contents last) → Appends (contents out) (contents last) text
   written_out out last writer text had kept = written_all out last had.0 writer text had.1.under had.1.empty (had.2 had.1.before).1 kept

@@ -5,7 +5,7 @@ use Rattle.std.proofs.lemmas.List.Concat.{flat_map-append}
 use Rattle.std.proofs.lemmas.List.Elements.{filter_map-append}
 use Rattle.key_order.specs.Text.{Text as Key}
 use Rattle.store_table.specs.declared.register.Register.{Register}
-use Rattle.mst_commands.specs.Lines.{Pair, line_as, pair_within, lines_of}
+use Rattle.mst_commands.specs.Lines.{Pair, line_as, pair_within, listed_lines}
 use Rattle.mst_commands.specs.declared.bounds.Bounds.{Bounds}
 
 none_taken : {A : Type 0} (n : ℕ) → ◌≡◌ {A = List A} (take n []) []
@@ -21,11 +21,11 @@ take_both (x ∷ xs) ys (suc n) =
 
 -- the lines of rows and of one more, as many as may be listed after them
 pub lines_more : (bounds : Bounds) (json : Bool) (limit left : ℕ) (rows : List (Key × Register)) (row : Key × Register) → left ≡ limit - length (filter_map (pair_within bounds) rows)
-    → lines_of bounds json limit rows ++ lines_of bounds json left (row ∷ []) ≡ lines_of bounds json limit (rows ++ row ∷ [])
+    → listed_lines bounds json limit rows ++ listed_lines bounds json left (row ∷ []) ≡ listed_lines bounds json limit (rows ++ row ∷ [])
 lines_more bounds json limit left rows row is =
     let pairs = filter_map (pair_within bounds) rows in
     let next = filter_map (pair_within bounds) (row ∷ []) in
-    ap (λ (n : ℕ). lines_of bounds json limit rows ++ flat_map (line_as json) (take n next)) is
+    ap (λ (n : ℕ). listed_lines bounds json limit rows ++ flat_map (line_as json) (take n next)) is
     ∙ sym (flat_map-append (line_as json) (take limit pairs) (take (limit - length pairs) next))
     ∙ ap (flat_map (line_as json)) (sym (take_both pairs next limit))
     ∙ ap (λ (l : List Pair). flat_map (line_as json) (take limit l)) (sym (filter_map-append (pair_within bounds) rows (row ∷ [])))

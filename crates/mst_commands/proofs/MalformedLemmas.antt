@@ -8,9 +8,9 @@ use Rattle.key_order.specs.Text.{Text as Key}
 use Rattle.csv.specs.Reading.{reader_state}
 use Rattle.csv.specs.Records.{field_at}
 use Rattle.csv.specs.declared.reader.Reader.{Reader}
-use Rattle.store_table.specs.Values.{bytes_of}
+use Rattle.store_table.specs.Values.{bytes_of_value}
 use Rattle.store_table.specs.declared.value.Value.{Value}
-use Rattle.mst_commands.specs.Malformed.{Begins, EndsFor, IsBadText, IsImportRefused, IsNoName, IsParseRefused, LacksHeader, SaysNone, SaysNoChange}
+use Rattle.mst_commands.specs.Malformed.{BeginsWithRecords, EndsFor, IsBadText, IsImportRefused, IsNoName, IsParseRefused, LacksHeader, SaysNone, SaysNoChange}
 use Rattle.mst_commands.specs.Records.{change_fields, field_or_empty, HasRead, IsPairOf}
 use Rattle.mst_commands.specs.declared.fault.Fault.{Fault}
 use Rattle.mst_commands.specs.declared.fault.Fault.TheVariants as fault
@@ -33,7 +33,7 @@ ends-for fault.System f g h = absurd h
 
 module _ {R : Type 0} (remaining : R → Option (List ℕ)) where
   -- the text begins with the records that a reader has read of it
-  pub begins : (text : Option (List ℕ)) (records : List (List (List ℕ))) (reader : Reader R) → HasRead remaining text records reader → IfSome text (λ bytes. Begins bytes records)
+  pub begins : (text : Option (List ℕ)) (records : List (List (List ℕ))) (reader : Reader R) → HasRead remaining text records reader → IfSome text (λ bytes. BeginsWithRecords bytes records)
   begins None records reader had = tt
   begins (Some bytes) records reader had = let was = had.reached bytes refl in (reader_state reader, was.0, was.2)
 
@@ -59,7 +59,7 @@ refused-as is_log text all (Err why) same refused = import-refused is_log text a
 
 -- a record of keys and values that says an entry has two fields
 of-pair : (row : List (List ℕ)) (key : List ℕ) (said : Option Value) → IsSomeAnd said (λ value. IsPairOf row (key, value))
-    → (value : Value) × (said ≡ Some value) × (row ≡ key ∷ bytes_of value ∷ [])
+    → (value : Value) × (said ≡ Some value) × (row ≡ key ∷ bytes_of_value value ∷ [])
 of-pair row key None says = absurd says
 of-pair row key (Some value) says = (value, refl, says.0)
 
@@ -79,11 +79,11 @@ module _ (row : List (List ℕ)) where
   unfolding field_at
   long-text long number entry says within =
       let p = of-pair row (string_bytes entry.0) entry.1.value says.fields in
-      let same : field_or_empty row 1 ≡ bytes_of p.0 = ap (λ (r : List (List ℕ)). field_or_empty r 1) p.2 in
-      let short : length (bytes_of p.0) ≤ 1048576 = rw p.1 at within.value in
+      let same : field_or_empty row 1 ≡ bytes_of_value p.0 = ap (λ (r : List (List ℕ)). field_or_empty r 1) p.2 in
+      let short : length (bytes_of_value p.0) ≤ 1048576 = rw p.1 at within.value in
       omega (arith, long, short, ap length same)
 
-too-long : (said : Option Value) → IsSomeAnd said (λ value. 1048576 < length (bytes_of value)) → IfSome said (λ value. length (bytes_of value) ≤ 1048576) → ⊥
+too-long : (said : Option Value) → IsSomeAnd said (λ value. 1048576 < length (bytes_of_value value)) → IfSome said (λ value. length (bytes_of_value value) ≤ 1048576) → ⊥
 too-long None long short = absurd long
 too-long (Some value) long short = omega (arith, long, short)
 

@@ -4,7 +4,7 @@ use Rattle.std.specs.Prelude.{◌==◌}
 use Rattle.std.specs.List.{flat_map}
 use Rattle.std.specs.Str.{chars}
 use Rattle.std.proofs.lemmas.Str.{encode_ascii, cons_from_encodes}
-use Rattle.mst_commands.specs.Escapes.{escape_of, line_of}
+use Rattle.mst_commands.specs.Escapes.{escape_of, escaped_line}
 
 -- another character than a b is after the backslash
 apart : (b : ℕ) (rest tail : List ℕ) → b ≢ 98 → 92 ∷ b ∷ rest ≢ 92 ∷ 98 ∷ tail
@@ -27,7 +27,7 @@ no_line : (cs tail : List ℕ) → flat_map escape_of cs ≢ 92 ∷ 98 ∷ tail
 no_line [] tail e = absurd (let k = e in cc)
 no_line (c ∷ cs) tail e = escaped c (flat_map escape_of cs) tail (c == 9) (c == 10) (c == 13) (c == 92) (λ differs same. true≢false (subst (λ (n : ℕ). (n == 92) ≡ false) same differs)) e
 
-pub no_text_line : (text tail : List ℕ) → line_of text ≢ 92 ∷ 98 ∷ tail
+pub no_text_line : (text tail : List ℕ) → escaped_line text ≢ 92 ∷ 98 ∷ tail
 no_text_line text tail e =
     let first = cons_from_encodes (flat_map escape_of (chars text)) (98 ∷ tail) 92 (e ∙ ap (λ (bytes : List ℕ). bytes ++ 98 ∷ tail) (sym (encode_ascii 92 (omega arith)))) in
     let second = cons_from_encodes first.0 tail 98 (first.2 ∙ ap (λ (bytes : List ℕ). bytes ++ tail) (sym (encode_ascii 98 (omega arith)))) in

@@ -7,14 +7,14 @@ use Rattle.std.specs.Ordering.{is_le, nat_cmp}
 use Rattle.mst_commands.specs.declared.bounds.Bounds.{Bounds}
 
 -- whether a text is at most another, by the order of bytes
-abbrev pub upto : List ℕ → List ℕ → Bool
-upto a b = is_le (slice_cmp nat_cmp a b)
+abbrev pub text_upto : List ℕ → List ℕ → Bool
+text_upto a b = is_le (slice_cmp nat_cmp a b)
 
 -- whether a key is at least the first, at most the last, and begins with the bytes of the prefix, where these are given
 abbrev pub are_around : Option (List ℕ) → Option (List ℕ) → Option (List ℕ) → List ℕ → Bool
 are_around first last prefix key =
-    option_map_or (λ from. upto from key) first true && (option_map_or (λ to. upto key to) last true && option_map_or (λ front. starts_with nat_eq key front) prefix true)
+    option_map_or (λ from. text_upto from key) first true && (option_map_or (λ to. text_upto key to) last true && option_map_or (λ front. starts_with nat_eq key front) prefix true)
 
 -- whether a key is within the bounds
-abbrev pub is_within : Bounds → List ℕ → Bool
-is_within bounds key = are_around (option_copied bounds.first) (option_copied bounds.last) (option_copied bounds.prefix) key
+abbrev pub is_in_bounds : Bounds → List ℕ → Bool
+is_in_bounds bounds key = are_around (option_copied bounds.first) (option_copied bounds.last) (option_copied bounds.prefix) key

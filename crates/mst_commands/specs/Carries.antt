@@ -30,9 +30,9 @@ value_of (Bytes bytes) text = bytes.items
 value_of _ text = text
 
 -- the entries of an import: those of the input
-abbrev pub entries_of : Input → List (Key × Register)
-entries_of (Records entries) = entries.items
-entries_of _ = []
+abbrev pub imported_entries : Input → List (Key × Register)
+imported_entries (Records entries) = entries.items
+imported_entries _ = []
 
 -- a put writes the value of these bytes under the key, at some time of the clock, and only if the key was as it is wanted
 pub record Puts (name key contents : List ℕ) (condition : Option Wanted) (old new : Trees) : Type 0 where
@@ -56,7 +56,7 @@ limit_of is_log ahead now = if is_log then Some (latest_time ahead now) else Non
 
 -- an import adds the entries that the input had
 abbrev pub ImportsInput : List ℕ → Bool → Bool → Input → Trees → Trees → Type 0
-ImportsInput name is_log ahead input old new = (now : ℕ) × Imports (entries_of input) (limit_of is_log ahead now) name now old new
+ImportsInput name is_log ahead input old new = (now : ℕ) × Imports (imported_entries input) (limit_of is_log ahead now) name now old new
 
 -- the time below which a compaction drops removals: so long before the clock's, or none
 abbrev pub forgets_below : Option ℕ → ℕ → ℕ

@@ -13,8 +13,8 @@ abbrev pub IsLetterOf : ℕ → Option ℕ → Type 0
 IsLetterOf c found = MatchOption found (escape_of c ≡ c ∷ []) (λ letter. escape_of c ≡ 92 ∷ letter ∷ [])
 
 -- a text in one line
-abbrev pub line_of : List ℕ → List ℕ
-line_of text = encode_utf8_all (flat_map escape_of (chars text))
+abbrev pub escaped_line : List ℕ → List ℕ
+escaped_line text = encode_utf8_all (flat_map escape_of (chars text))
 
 -- a number below 32 as a backslash, the letter u and four digits in base 16
 abbrev pub code_of : ℕ → List ℕ

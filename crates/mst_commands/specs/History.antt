@@ -7,7 +7,7 @@ use Rattle.sqlite_trees.specs.Tree.{Trees}
 use Rattle.store_table.specs.Entries.{HoldsEntries}
 use Rattle.store_table.specs.declared.register.Register.{Register}
 use Rattle.store_table.specs.declared.value.Value.{Value}
-use Rattle.mst_commands.specs.Escapes.{line_of, json_of}
+use Rattle.mst_commands.specs.Escapes.{escaped_line, json_of}
 use Rattle.mst_commands.specs.Values.{value_line, said_member}
 
 -- what was done at a time by a writer, in a line: a value was put, or the key was removed
@@ -17,7 +17,7 @@ change_text None = codes "\tdel\n"
 
 -- the line of a register
 abbrev pub change_line : Register → List ℕ
-change_line register = decimal register.time ++ (codes "\t" ++ (line_of (string_bytes register.writer) ++ change_text register.value))
+change_line register = decimal register.time ++ (codes "\t" ++ (escaped_line (string_bytes register.writer) ++ change_text register.value))
 
 -- the line of a register, as an object of JSON
 abbrev pub change_object : Register → List ℕ

@@ -4,8 +4,8 @@ use Rattle.std.specs.Option.{option_map_or}
 use Rattle.key_order.specs.Text.{Text as Key}
 use Rattle.store_table.specs.declared.register.Register.{Register}
 use Rattle.store_table.specs.declared.value.Value.{Value}
-use Rattle.mst_commands.specs.Bounds.{is_within}
-use Rattle.mst_commands.specs.Escapes.{line_of, json_of}
+use Rattle.mst_commands.specs.Bounds.{is_in_bounds}
+use Rattle.mst_commands.specs.Escapes.{escaped_line, json_of}
 use Rattle.mst_commands.specs.Values.{value_line, value_member}
 use Rattle.mst_commands.specs.declared.bounds.Bounds.{Bounds}
 use Rattle.mst_commands.specs.declared.bounds.Listing.{Listing}
@@ -15,12 +15,12 @@ abbrev pub Pair : Type 0
 Pair = List ℕ × Value
 
 -- the key and the value of a row, unless it is a removal
-abbrev pub pair_of : Key × Register → Option Pair
-pair_of row = option_map (λ value. (string_bytes row.0, value)) row.1.value
+abbrev pub listed_pair : Key × Register → Option Pair
+listed_pair row = option_map (λ value. (string_bytes row.0, value)) row.1.value
 
 -- a key, a tab and a value in a line
 abbrev pub text_line : List ℕ → Value → List ℕ
-text_line key value = line_of key ++ (codes "\t" ++ (value_line value ++ codes "\n"))
+text_line key value = escaped_line key ++ (codes "\t" ++ (value_line value ++ codes "\n"))
 
 -- a key and a value in a line, as an object of JSON
 abbrev pub json_line : List ℕ → Value → List ℕ
@@ -32,7 +32,7 @@ line_as json pair = if json then json_line pair.0 pair.1 else text_line pair.0 p
 
 -- the key and the value of a row that is listed: no removal, and its key is within the bounds
 abbrev pub pair_within : Bounds → Key × Register → Option Pair
-pair_within b row = if is_within b (string_bytes row.0) then pair_of row else None
+pair_within b row = if is_in_bounds b (string_bytes row.0) then listed_pair row else None
 
 -- its line, or nothing where the row isn't listed
 abbrev pub line_where : Bool → Option Pair → List ℕ
@@ -43,9 +43,9 @@ abbrev pub row_line : Listing → Key × Register → List ℕ
 row_line listing row = line_where listing.json (pair_within listing.bounds row)
 
 -- a line for each row that is listed, for this many at most
-abbrev pub lines_of : Bounds → Bool → ℕ → List (Key × Register) → List ℕ
-lines_of bounds json limit rows = flat_map (line_as json) (take limit (filter_map (pair_within bounds) rows))
+abbrev pub listed_lines : Bounds → Bool → ℕ → List (Key × Register) → List ℕ
+listed_lines bounds json limit rows = flat_map (line_as json) (take limit (filter_map (pair_within bounds) rows))
 
 -- what a list of rows writes
 abbrev pub list_of : Listing → List (Key × Register) → List ℕ
-list_of listing rows = lines_of listing.bounds listing.json listing.limit rows
+list_of listing rows = listed_lines listing.bounds listing.json listing.limit rows

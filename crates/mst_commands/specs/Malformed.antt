@@ -4,7 +4,7 @@ use Rattle.key_order.specs.Text.{Text as Key}
 use Rattle.csv.specs.Reading.{AreRecords, Reached, default_config, strip_bom}
 use Rattle.csv.specs.declared.parser.State.{State}
 use Rattle.csv.specs.declared.parser.State.TheVariants as st
-use Rattle.store_table.specs.Values.{bytes_of}
+use Rattle.store_table.specs.Values.{bytes_of_value}
 use Rattle.store_table.specs.declared.register.Register.{Register}
 use Rattle.store_table.specs.declared.value.Value.{Value}
 use Rattle.mst_commands.specs.Quotes.{is_quoted}
@@ -13,23 +13,23 @@ use Rattle.mst_commands.specs.declared.fault.Fault.{Fault}
 use Rattle.mst_commands.specs.declared.fault.Fault.TheVariants as fault
 
 -- a text of CSV begins with these records
-abbrev pub Begins : List ℕ → List (List (List ℕ)) → Type 0
-Begins text records = (state : State) × (left : List ℕ) × Reached default_config st.StartRecord (strip_bom text) records state left
+abbrev pub BeginsWithRecords : List ℕ → List (List (List ℕ)) → Type 0
+BeginsWithRecords text records = (state : State) × (left : List ℕ) × Reached default_config st.StartRecord (strip_bom text) records state left
 
 -- key, writer and value have 1 MiB each at most, and the time is one that there is, below 2^63
-pub record IsWithin (entry : Key × Register) : Type 0 where
+pub record IsStorable (entry : Key × Register) : Type 0 where
   pub key : length (string_bytes entry.0) ≤ 1048576
   pub time : entry.1.time < 2 ^ 63
   pub writer : length (string_bytes entry.1.writer) ≤ 1048576
-  pub value : IfSome entry.1.value (λ value. length (bytes_of value) ≤ 1048576)
+  pub value : IfSome entry.1.value (λ value. length (bytes_of_value value) ≤ 1048576)
 
 -- a record after the header says no such entry
 abbrev pub SaysNone : Bool → List (List ℕ) → Type 0
-SaysNone is_log fields = (number : ℕ) (entry : Key × Register) → SaysEntry is_log number fields entry → ¬ IsWithin entry
+SaysNone is_log fields = (number : ℕ) (entry : Key × Register) → SaysEntry is_log number fields entry → ¬ IsStorable entry
 
 -- the last two fields of a record of a log say no change, or a value of more than 1 MiB
 abbrev pub SaysNoChange : List (List ℕ) → Type 0
-SaysNoChange fields = (said : Option Value) → SaysValue fields said → IsSomeAnd said (λ value. 1048576 < length (bytes_of value))
+SaysNoChange fields = (said : Option Value) → SaysValue fields said → IsSomeAnd said (λ value. 1048576 < length (bytes_of_value value))
 
 -- a field is no key and no writer: it has more than 1 MiB, or isn't UTF-8
 abbrev pub IsNoName : List ℕ → Type 0
@@ -37,7 +37,7 @@ IsNoName field = (1048576 < length field) ⊎ ¬ (IsUtf8 field)
 
 -- the first record of a text is another than the header
 abbrev pub HasOtherHeader : Bool → List ℕ → Type 0
-HasOtherHeader is_log text = (first : List (List ℕ)) × Begins text (first ∷ []) × (first ≢ header is_log)
+HasOtherHeader is_log text = (first : List (List ℕ)) × BeginsWithRecords text (first ∷ []) × (first ≢ header is_log)
 
 -- a text has no record, or the first one is another than the header
 abbrev pub LacksHeader : Bool → List ℕ → Type 0
@@ -45,7 +45,7 @@ LacksHeader is_log text = AreRecords default_config st.StartRecord (strip_bom te
 
 -- after the header of a text comes a record that says no entry
 abbrev pub GoesOnInNoEntry : Bool → List ℕ → List (List (List ℕ)) → Type 0
-GoesOnInNoEntry is_log text records = (fields : List (List ℕ)) × Begins text (header is_log ∷ records ++ fields ∷ []) × SaysNone is_log fields
+GoesOnInNoEntry is_log text records = (fields : List (List ℕ)) × BeginsWithRecords text (header is_log ∷ records ++ fields ∷ []) × SaysNone is_log fields
 
 -- a text has after the header a record that says no entry
 abbrev pub HasBadRecord : Bool → List ℕ → Type 0
@@ -60,8 +60,8 @@ EndsFor first row (fault.Device error) = ⊤
 EndsFor first row _ = ⊥
 
 -- a command ends early only if memory, the store or a device fails
-abbrev pub IsFailure : Fault → Type 0
-IsFailure = EndsFor ⊥ ⊥
+abbrev pub IsCommandFailure : Fault → Type 0
+IsCommandFailure = EndsFor ⊥ ⊥
 
 -- for its header or a record the reading of records ends only where these are wrong, as far as the text is known
 abbrev pub IsParseRefused : Bool → Option (List ℕ) → Fault → Type 0

@@ -2,12 +2,12 @@
 use Rattle.std.specs.Prelude.{ℕ, Bool, List, ◌++◌, codes, decimal, string_bytes, if◌then◌else◌}
 use Rattle.key_order.specs.Text.{Text as Key}
 use Rattle.store_table.specs.declared.register.Register.{Register}
-use Rattle.mst_commands.specs.Escapes.{line_of, json_of}
+use Rattle.mst_commands.specs.Escapes.{escaped_line, json_of}
 use Rattle.mst_commands.specs.Values.{said_member}
 
 -- the key of an entry in a line
 abbrev pub key_line : Key × Register → List ℕ
-key_line entry = line_of (string_bytes entry.0) ++ codes "\n"
+key_line entry = escaped_line (string_bytes entry.0) ++ codes "\n"
 
 -- an entry in a line, as an object of JSON
 abbrev pub entry_object : Key × Register → List ℕ

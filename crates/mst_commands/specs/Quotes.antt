@@ -16,9 +16,9 @@ next_place Quoted b = Some (cond (b == 34) Closed Quoted)
 next_place Closed b = cond (b == 34) (Some Quoted) (cond (ends_field b) (Some Start) None)
 
 -- where the end of these bytes stands, or none where one of them can't stand where it does
-abbrev pub end_of : List ℕ → Place → Option Place
-end_of [] place = Some place
-end_of (b ∷ bs) place = option_and_then (end_of bs) (next_place place b)
+abbrev pub end_place : List ℕ → Place → Option Place
+end_place [] place = Some place
+end_place (b ∷ bs) place = option_and_then (end_place bs) (next_place place b)
 
 -- whether a text may end there: not between quotes
 abbrev pub may_end : Option Place → Bool
@@ -34,4 +34,4 @@ behind_bom text = if starts_with nat_eq text (239 ∷ 187 ∷ 191 ∷ []) then d
 
 -- whether each quote of a text stands where one may, and none is open at the end
 abbrev pub is_quoted : List ℕ → Bool
-is_quoted text = may_end (end_of (behind_bom text) Start)
+is_quoted text = may_end (end_place (behind_bom text) Start)

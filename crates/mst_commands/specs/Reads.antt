@@ -8,7 +8,7 @@ use Rattle.store_table.specs.Entries.{HoldsEntries}
 use Rattle.store_table.specs.Latest.{IsLatestAt, said_by}
 use Rattle.store_table.specs.Rows.{HasLatestRows, says_value, is_removal, last_time}
 use Rattle.store_table.specs.Sifting.{AreSifted}
-use Rattle.store_table.specs.Values.{bytes_of}
+use Rattle.store_table.specs.Values.{bytes_of_value}
 use Rattle.store_table.specs.declared.register.Register.{Register}
 use Rattle.store_table.specs.declared.rows.Summary.{Summary}
 use Rattle.store_table.specs.declared.sifting.BadRow.{BadRow}
@@ -25,7 +25,7 @@ IsValueAt trees key said = (found : Option Register) × IsLatestAt trees key fou
 -- the value of the key, as it is, and a newline were written
 abbrev pub WritesValue : {W : Type 0} → List ℕ → (W → Option (List ℕ)) → W → W → Trees → Type 0
 WritesValue key contents old new trees =
-    (value : Value) × IsValueAt trees key (Some value) × Appends (contents old) (contents new) (bytes_of value ++ 10 ∷ [])
+    (value : Value) × IsValueAt trees key (Some value) × Appends (contents old) (contents new) (bytes_of_value value ++ 10 ∷ [])
 
 -- the list of the latest rows of the table's entries was written
 abbrev pub WritesList : {W : Type 0} → Listing → (W → Option (List ℕ)) → W → W → Trees → Type 0
@@ -48,8 +48,8 @@ WritesLog contents old trees new =
     (entries : List (Key × Register)) × HoldsEntries trees entries × Appends (contents old) (contents new) (log_text entries)
 
 -- each row of the table is that of an entry
-abbrev pub AreEntries : Trees → Type 0
-AreEntries trees = (entries : List (Key × Register)) × HoldsEntries trees entries
+abbrev pub AreEntryRows : Trees → Type 0
+AreEntryRows trees = (entries : List (Key × Register)) × HoldsEntries trees entries
 
 -- the table's rows that are entries were written as CSV, and these are the others
 abbrev pub WritesSifted : {W : Type 0} → (W → Option (List ℕ)) → W → Trees → W × Vec BadRow → Type 0

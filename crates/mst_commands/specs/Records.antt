@@ -11,10 +11,10 @@ use Rattle.csv.specs.declared.parser.State.TheVariants as st
 use Rattle.csv.specs.declared.reader.Reader.{Reader}
 use Rattle.csv.specs.declared.reader.Trim.TheVariants as trim
 use Rattle.csv.specs.declared.writer.Writer.{Writer}
-use Rattle.store_table.specs.Values.{bytes_of, IsFormed}
+use Rattle.store_table.specs.Values.{bytes_of_value, IsFormed}
 use Rattle.store_table.specs.declared.register.Register.{Register}
 use Rattle.store_table.specs.declared.value.Value.{Value}
-use Rattle.mst_commands.specs.Lines.{Pair, pair_of}
+use Rattle.mst_commands.specs.Lines.{Pair, listed_pair}
 
 -- the names of the fields, in the first record
 abbrev pub header : Bool → List (List ℕ)
@@ -23,12 +23,12 @@ header is_log =
 
 -- a key and the bytes of its value
 abbrev pub pair_fields : Pair → List (List ℕ)
-pair_fields pair = pair.0 ∷ bytes_of pair.1 ∷ []
+pair_fields pair = pair.0 ∷ bytes_of_value pair.1 ∷ []
 
 -- what a change is called, and the bytes of its value: none of a removal
 abbrev pub change_fields : Option Value → List (List ℕ)
 change_fields None = codes "del" ∷ [] ∷ []
-change_fields (Some value) = codes "put" ∷ bytes_of value ∷ []
+change_fields (Some value) = codes "put" ∷ bytes_of_value value ∷ []
 
 -- an entry of a log, with its time in these digits
 abbrev pub log_fields : List ℕ → Key × Register → List (List ℕ)
@@ -75,7 +75,7 @@ HasEntries is_log text entries =
 
 -- the record of a row that says a value, or nothing of a removal
 abbrev pub pair_text : Key × Register → List ℕ
-pair_text row = option_map_or (λ pair. row_text default_writer (pair_fields pair)) (pair_of row) []
+pair_text row = option_map_or (λ pair. row_text default_writer (pair_fields pair)) (listed_pair row) []
 
 -- rows as CSV: the header, and a record for each that says a value
 abbrev pub pairs_text : List (Key × Register) → List ℕ
@@ -126,14 +126,14 @@ abbrev pub WritesRecords : {W : Type 0} → (W → Option (List ℕ)) → Writer
 WritesRecords contents old new bytes = IsBeforeRecord old → IsBeforeRecord new × Appends (text_written contents old) (text_written contents new) bytes
 
 -- a writer was made over this output, and has written nothing
-pub record IsOver {W : Type 0} (out : W) (first : Writer W) : Type 0 where
+pub record BeginsOver {W : Type 0} (out : W) (first : Writer W) : Type 0 where
   pub before : IsBeforeRecord first
   pub under : writer_under first ≡ out
   pub empty : writer_pending first ≡ []
 
 -- a writer that was made over this output has written these bytes, and stands before a record
 abbrev pub HasWritten : {W : Type 0} → (W → Option (List ℕ)) → W → Writer W → List ℕ → Type 0
-HasWritten {W} contents out writer bytes = (first : Writer W) × IsOver out first × WritesRecords contents first writer bytes
+HasWritten {W} contents out writer bytes = (first : Writer W) × BeginsOver out first × WritesRecords contents first writer bytes
 
 -- a writer that stood before a record has written one of these fields, and stands before a record
 abbrev pub WritesRecord : {W : Type 0} → (W → Option (List ℕ)) → Writer W → Writer W → List (List ℕ) → Type 0

@@ -1,6 +1,6 @@
 //! A store made of the entries of another one.
 ghost use Rattle.store_table.specs.Logs.{Makes};
-ghost use Rattle.mst_commands.specs.Copies.{IsCopy};
+ghost use Rattle.mst_commands.specs.Copies.{IsCopyOf};
 
 use sqlite_trees::store::Store;
 use std::alloc::Global;
@@ -21,7 +21,7 @@ pub fn make_copy<S: Store>(
     hash_key: &[u8; HASH_KEY_LEN],
     entries: &[(String, Register)],
 ) -> Result<(), StoreFault>
-    ensures copied { Makes S.Store log.old log.new result (λ _. IsCopy FORMAT writer.now hash_key.now entries.now) }
+    ensures copied { Makes S.Store log.old log.new result (λ _. IsCopyOf FORMAT writer.now hash_key.now entries.now) }
 {
     create(alloc, log, writer, hash_key)?;
     add_all(alloc, log, entries)

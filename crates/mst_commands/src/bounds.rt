@@ -1,6 +1,6 @@
 //! Which keys a list shows.
 ghost use Rattle.std.specs.Prelude.{◌≡◌};
-ghost use Rattle.mst_commands.specs.Bounds.{is_within};
+ghost use Rattle.mst_commands.specs.Bounds.{is_in_bounds};
 
 /// From the first key, to the last one, of those that begin alike.
 #[derive(Clone, Copy)]
@@ -24,7 +24,7 @@ pub struct Listing<'a> {
 impl Bounds<'_> {
     /// Whether a key is within the bounds.
     pub fn hold(&self, key: &str) -> bool
-        ensures { result ≡ is_within self.now key.now }
+        ensures { result ≡ is_in_bounds self.now key.now }
     {
         let from_first = match self.first {
             Some(first) => first <= key,

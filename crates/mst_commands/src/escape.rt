@@ -1,7 +1,7 @@
 //! Texts of any characters in one line.
 ghost use Rattle.std.specs.Prelude.{◌≡◌, ◌<◌, ◌++◌, IfOk, OnOk, string_bytes, encode_utf8_all};
 ghost use Rattle.std.specs.Char.{digit_char};
-ghost use Rattle.mst_commands.specs.Escapes.{IsLetterOf, escape_of, line_of, code_of, json_char, json_of};
+ghost use Rattle.mst_commands.specs.Escapes.{IsLetterOf, escape_of, escaped_line, code_of, json_char, json_of};
 
 use std::alloc::{AllocError, Global};
 
@@ -33,7 +33,7 @@ fn push_escaped(line: &mut String, character: char) -> Result<(), AllocError>
 
 /// A text in one line: a tab, a newline, a carriage return and a backslash are a backslash and a letter there.
 pub fn escape(alloc: Global, text: &str) -> Result<String, AllocError>
-    ensures { IfOk result (λ line. string_bytes line ≡ line_of text.now) }
+    ensures { IfOk result (λ line. string_bytes line ≡ escaped_line text.now) }
 {
     let mut line = String::new(alloc);
     'characters: for character in text.chars() {

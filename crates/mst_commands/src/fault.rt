@@ -1,6 +1,6 @@
 //! Why a command ends early.
 ghost use Rattle.std.specs.Prelude.{◌≡◌};
-ghost use Rattle.mst_commands.specs.Malformed.{IsFailure};
+ghost use Rattle.mst_commands.specs.Malformed.{IsCommandFailure};
 
 use csv::ErrorKind;
 use std::alloc::{AllocError, AllocFailed};
@@ -103,7 +103,7 @@ impl From<io::Error> for Fault {
 
 /// Why a read or a write of CSV ended early.
 pub fn csv_fault(error: &csv::Error) -> Fault
-    ensures { IsFailure result }
+    ensures { IsCommandFailure result }
 {
     match error.kind() {
         ErrorKind::OutOfMemory => Fault::Store(StoreFault::Memory),
@@ -113,7 +113,7 @@ pub fn csv_fault(error: &csv::Error) -> Fault
 
 /// Why a read of the input ended early.
 pub fn input_fault(error: io::Error) -> Fault
-    ensures { IsFailure result }
+    ensures { IsCommandFailure result }
 {
     if error.kind() == io::ErrorKind::OutOfMemory {
         Fault::Store(StoreFault::Memory)

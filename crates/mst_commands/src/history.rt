@@ -4,7 +4,7 @@ ghost use Rattle.std.specs.Io.KnownBytes.{Appends};
 ghost use Rattle.store_table.specs.Logs.{Shows, StaysInOk, LeavesNoMore};
 ghost use Rattle.mst_commands.specs.Faults.{StaysAtDevice};
 ghost use Rattle.mst_commands.specs.History.{WritesHistory, change_line, change_object, change_text, history_line};
-ghost use Rattle.mst_commands.specs.Malformed.{IsFailure};
+ghost use Rattle.mst_commands.specs.Malformed.{IsCommandFailure};
 
 use crate::escape::{escape, json_string};
 use crate::fault::Fault;
@@ -19,7 +19,7 @@ use store_table::{Register, Value};
 /// Writes what was done to the key, after the time and the writer.
 fn write_change<W: Write>(alloc: Global, out: &mut W, value: &Option<Value>) -> Result<(), Fault>
     ensures bytes { OnOk result (Appends (W.contents out.old) (W.contents out.new) (change_text value.now)) }
-    ensures faults { IfErr result IsFailure }
+    ensures faults { IfErr result IsCommandFailure }
 {
     let Some(value) = value else {
         out.write_all(b"\tdel\n")?;
@@ -35,7 +35,7 @@ fn write_change<W: Write>(alloc: Global, out: &mut W, value: &Option<Value>) -> 
 /// Writes a register as a line.
 fn write_line<W: Write>(alloc: Global, out: &mut W, register: &Register) -> Result<(), Fault>
     ensures bytes { OnOk result (Appends (W.contents out.old) (W.contents out.new) (change_line register.now)) }
-    ensures faults { IfErr result IsFailure }
+    ensures faults { IfErr result IsCommandFailure }
 {
     let time = register.time.to_string(alloc)?;
     let writer = escape(alloc, register.writer.as_str())?;
@@ -48,7 +48,7 @@ fn write_line<W: Write>(alloc: Global, out: &mut W, register: &Register) -> Resu
 /// A register as an object of JSON, in a line.
 fn object_of(alloc: Global, register: &Register) -> Result<String, Fault>
     ensures text { IfOk result (λ text. string_bytes text ≡ change_object register.now) }
-    ensures faults { IfErr result IsFailure }
+    ensures faults { IfErr result IsCommandFailure }
 {
     let time = register.time;
     let writer = json_string(alloc, register.writer.as_str())?;
@@ -59,7 +59,7 @@ fn object_of(alloc: Global, register: &Register) -> Result<String, Fault>
 /// Writes a register as an object of JSON.
 fn write_object<W: Write>(alloc: Global, out: &mut W, register: &Register) -> Result<(), Fault>
     ensures bytes { OnOk result (Appends (W.contents out.old) (W.contents out.new) (change_object register.now)) }
-    ensures faults { IfErr result IsFailure }
+    ensures faults { IfErr result IsCommandFailure }
 {
     let text = object_of(alloc, register)?;
     out.write_all(text.as_bytes())?;
@@ -76,7 +76,7 @@ fn write_entry<W: Write>(
     json: bool,
 ) -> Result<(), Fault>
     ensures bytes { OnOk result (Appends (W.contents out.old) (W.contents out.new) (history_line key.now json entry.now)) }
-    ensures faults { IfErr result IsFailure }
+    ensures faults { IfErr result IsCommandFailure }
 {
     if entry.0.as_str() != key {
         return Ok(());
@@ -97,7 +97,7 @@ fn write_entries<W: Write>(
     json: bool,
 ) -> Result<(), Fault>
     ensures bytes { OnOk result (Appends (W.contents out.old) (W.contents out.new) (flat_map (history_line key.now json) entries.now)) }
-    ensures faults { IfErr result IsFailure }
+    ensures faults { IfErr result IsCommandFailure }
 {
     'entries: for entry in entries {
         write_entry(alloc, out, entry, key, json)?;
@@ -118,7 +118,7 @@ pub fn history<S: Store, W: Write>(
     json: bool,
 ) -> Result<(), Fault>
     ensures written { Shows S.Store log.old log.new result (WritesHistory key.now json W.contents out.old out.new) }
-    ensures faults { IfErr result IsFailure }
+    ensures faults { IfErr result IsCommandFailure }
     ensures unchanged { StaysInOk S.Store log.old log.new result }
     ensures device { StaysAtDevice S.Store log.old log.new result }
     ensures crash { LeavesNoMore S.Store log.old log.new }

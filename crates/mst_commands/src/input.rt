@@ -1,7 +1,7 @@
 //! What a command reads from standard input.
 ghost use Rattle.std.specs.Prelude.{◌≡◌, IfOk};
 ghost use Rattle.store_table.specs.Values.{IsValueOf};
-ghost use Rattle.mst_commands.specs.Carries.{IsInputOf, entries_of, value_of as value_from};
+ghost use Rattle.mst_commands.specs.Carries.{IsInputOf, imported_entries, value_of as value_from};
 
 use crate::fault::Fault;
 use crate::records::read_entries;
@@ -54,7 +54,7 @@ pub(crate) fn value_of(alloc: Global, text: &str, input: Input) -> Result<Value,
 
 /// The entries of an import: those of the input.
 pub(crate) fn entries_in(alloc: Global, input: Input) -> Entries
-    ensures { result.items ≡ entries_of input }
+    ensures { result.items ≡ imported_entries input }
 {
     match input {
         Input::Records(entries) => entries,

@@ -1,8 +1,8 @@
 //! Keys and values in lines.
 ghost use Rattle.std.specs.Prelude.{◌≡◌, ◌-◌, [], ◌∷◌, length, is_some, filter_map, IfOk, IfErr, OnOk};
 ghost use Rattle.std.specs.Io.KnownBytes.{Appends};
-ghost use Rattle.mst_commands.specs.Malformed.{IsFailure};
-ghost use Rattle.mst_commands.specs.Lines.{text_line, json_line, line_as, row_line, pair_within, lines_of};
+ghost use Rattle.mst_commands.specs.Malformed.{IsCommandFailure};
+ghost use Rattle.mst_commands.specs.Lines.{text_line, json_line, row_line, pair_within, listed_lines};
 
 use crate::bounds::Listing;
 use crate::escape::{escape, json_string};
@@ -15,7 +15,7 @@ use store_table::{Register, Value};
 /// Writes a key and its value as a line.
 fn write_line<W: Write>(alloc: Global, out: &mut W, key: &str, value: &Value) -> Result<(), Fault>
     ensures bytes { OnOk result (Appends (W.contents out.old) (W.contents out.new) (text_line key.now value.now)) }
-    ensures faults { IfErr result IsFailure }
+    ensures faults { IfErr result IsCommandFailure }
 {
     let key = escape(alloc, key)?;
     let value = in_line(alloc, value)?;
@@ -29,7 +29,7 @@ fn write_line<W: Write>(alloc: Global, out: &mut W, key: &str, value: &Value) ->
 /// Writes a key and its value as an object of JSON.
 fn write_object<W: Write>(alloc: Global, out: &mut W, key: &str, value: &Value) -> Result<(), Fault>
     ensures bytes { OnOk result (Appends (W.contents out.old) (W.contents out.new) (json_line key.now value.now)) }
-    ensures faults { IfErr result IsFailure }
+    ensures faults { IfErr result IsCommandFailure }
 {
     let key = json_string(alloc, key)?;
     let member = as_member(alloc, value)?;
@@ -50,7 +50,7 @@ fn write_row<W: Write>(
 ) -> Result<bool, Fault>
     ensures shown { IfOk result (λ shown. shown ≡ is_some (pair_within listing.now.bounds row.now)) }
     ensures bytes { OnOk result (Appends (W.contents out.old) (W.contents out.new) (row_line listing.now row.now)) }
-    ensures faults { IfErr result IsFailure }
+    ensures faults { IfErr result IsCommandFailure }
 {
     let key = row.0.as_str();
     if !listing.bounds.hold(key) {
@@ -76,8 +76,8 @@ pub fn write_next<W: Write>(
     left: u64,
 ) -> Result<u64, Fault>
     ensures left { IfOk result (λ after. after ≡ left - length (filter_map (pair_within listing.now.bounds) (row.now ∷ []))) }
-    ensures bytes { OnOk result (Appends (W.contents out.old) (W.contents out.new) (lines_of listing.now.bounds listing.now.json left (row.now ∷ []))) }
-    ensures faults { IfErr result IsFailure }
+    ensures bytes { OnOk result (Appends (W.contents out.old) (W.contents out.new) (listed_lines listing.now.bounds listing.now.json left (row.now ∷ []))) }
+    ensures faults { IfErr result IsCommandFailure }
 {
     if left == 0 {
         return Ok(0);

@@ -1,7 +1,7 @@
 //! The log as CSV.
 ghost use Rattle.std.specs.Prelude.{[], ◌∷◌, IfOk, IfErr, OnOk};
 ghost use Rattle.std.specs.Io.KnownBytes.{Appends};
-ghost use Rattle.mst_commands.specs.Malformed.{IsFailure};
+ghost use Rattle.mst_commands.specs.Malformed.{IsCommandFailure};
 ghost use Rattle.mst_commands.specs.Records.{entry_text, log_text, WritesRecord, WritesRecords};
 
 use crate::fault::{Fault, csv_fault};
@@ -22,7 +22,7 @@ fn write_five<'a, W: Write + Drop>(
 ) -> Result<(), Fault>
     ensures written { OnOk result (WritesRecord W.contents writer.old writer.new
         (key.now ∷ time.now ∷ name.now ∷ change.now ∷ value.now ∷ [])) }
-    ensures faults { IfErr result IsFailure }
+    ensures faults { IfErr result IsCommandFailure }
 {
     match writer.write_fields(&[
         key.as_bytes(),
@@ -43,7 +43,7 @@ fn write_entry<W: Write + Drop>(
     entry: &(String, Register),
 ) -> Result<(), Fault>
     ensures written { OnOk result (WritesRecords W.contents writer.old writer.new (entry_text entry.now)) }
-    ensures faults { IfErr result IsFailure }
+    ensures faults { IfErr result IsCommandFailure }
 {
     let time = entry.1.time.to_string(alloc)?;
     let (key, time, name) = (entry.0.as_str(), time.as_str(), entry.1.writer.as_str());
@@ -64,7 +64,7 @@ pub fn write_log<W: Write + Drop>(
     entries: &[(String, Register)],
 ) -> Result<W, Fault>
     ensures written { IfOk result (λ written. Appends (W.contents out) (W.contents written) (log_text entries.now)) }
-    ensures faults { IfErr result IsFailure }
+    ensures faults { IfErr result IsCommandFailure }
 {
     let mut writer = Writer::from_writer(out);
     write_five(

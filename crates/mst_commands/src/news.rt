@@ -1,7 +1,7 @@
 //! What a pull would bring, in lines.
 ghost use Rattle.std.specs.Prelude.{◌≡◌, flat_map, string_bytes, IfErr, IfOk, OnOk};
 ghost use Rattle.std.specs.Io.KnownBytes.{Appends};
-ghost use Rattle.mst_commands.specs.Malformed.{IsFailure};
+ghost use Rattle.mst_commands.specs.Malformed.{IsCommandFailure};
 ghost use Rattle.mst_commands.specs.News.{entry_object, key_line, news_line};
 
 use crate::escape::{escape, json_string};
@@ -14,7 +14,7 @@ use store_table::Register;
 /// Writes the key of an entry.
 fn write_key<W: Write>(alloc: Global, out: &mut W, entry: &(String, Register)) -> Result<(), Fault>
     ensures bytes { OnOk result (Appends (W.contents out.old) (W.contents out.new) (key_line entry.now)) }
-    ensures faults { IfErr result IsFailure }
+    ensures faults { IfErr result IsCommandFailure }
 {
     let key = escape(alloc, entry.0.as_str())?;
     out.write_all(key.as_bytes())?;
@@ -25,7 +25,7 @@ fn write_key<W: Write>(alloc: Global, out: &mut W, entry: &(String, Register)) -
 /// An entry as an object of JSON, in a line.
 fn object_of(alloc: Global, entry: &(String, Register)) -> Result<String, Fault>
     ensures text { IfOk result (λ text. string_bytes text ≡ entry_object entry.now) }
-    ensures faults { IfErr result IsFailure }
+    ensures faults { IfErr result IsCommandFailure }
 {
     let key = json_string(alloc, entry.0.as_str())?;
     let time = entry.1.time;
@@ -41,7 +41,7 @@ fn write_object<W: Write>(
     entry: &(String, Register),
 ) -> Result<(), Fault>
     ensures bytes { OnOk result (Appends (W.contents out.old) (W.contents out.new) (entry_object entry.now)) }
-    ensures faults { IfErr result IsFailure }
+    ensures faults { IfErr result IsCommandFailure }
 {
     let text = object_of(alloc, entry)?;
     out.write_all(text.as_bytes())?;
@@ -57,7 +57,7 @@ fn write_entry<W: Write>(
     json: bool,
 ) -> Result<(), Fault>
     ensures bytes { OnOk result (Appends (W.contents out.old) (W.contents out.new) (news_line json entry.now)) }
-    ensures faults { IfErr result IsFailure }
+    ensures faults { IfErr result IsCommandFailure }
 {
     if json {
         write_object(alloc, out, entry)
@@ -78,7 +78,7 @@ pub fn write_news<W: Write>(
     json: bool,
 ) -> Result<(), Fault>
     ensures bytes { OnOk result (Appends (W.contents out.old) (W.contents out.new) (flat_map (news_line json) entries.now)) }
-    ensures faults { IfErr result IsFailure }
+    ensures faults { IfErr result IsCommandFailure }
 {
     'entries: for entry in entries {
         write_entry(alloc, out, entry, json)?;

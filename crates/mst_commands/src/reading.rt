@@ -1,9 +1,9 @@
 //! The commands that read.
 ghost use Rattle.std.specs.Prelude.{◌≡◌, ◌≢◌, ◌+◌, if◌then◌else◌, ◌++◌, [], ◌∷◌, length, string_bytes, IfOk, IfErr, OnOk};
 ghost use Rattle.std.specs.Io.KnownBytes.{Appends};
-ghost use Rattle.store_table.specs.Logs.{IsSteady, Finds, Shows, Refuses, StaysInOk, StaysInErr, LeavesNoMore};
+ghost use Rattle.store_table.specs.Logs.{IsSteady, Finds, Shows, Refuses, StaysInOk, LeavesNoMore};
 ghost use Rattle.mst_commands.specs.Faults.{IsDevice, StaysAtDevice};
-ghost use Rattle.mst_commands.specs.Malformed.{IsFailure};
+ghost use Rattle.mst_commands.specs.Malformed.{IsCommandFailure};
 ghost use Rattle.mst_commands.specs.Reads.{IsValueAt, WritesValue, WritesList, WritesCount, WritesStatus, WritesPairs, WritesLog, WritesSifted};
 ghost use Rattle.mst_commands.specs.Reads.{IsSummary, SumsOn, status_as, status_object as object_text, status_text};
 
@@ -26,7 +26,7 @@ use store_table::{Register, StoreFault, Value, latest};
 fn value_at<S: Store>(alloc: Global, log: &mut Log<S>, key: &str) -> Result<Option<Value>, Fault>
     ensures said { Finds S.Store log.old log.new result (λ trees said. IsValueAt trees key.now said) }
     ensures store { IfErr result (λ why. ¬ IsDevice why) }
-    ensures faults { IfErr result IsFailure }
+    ensures faults { IfErr result IsCommandFailure }
     ensures unchanged { StaysInOk S.Store log.old log.new result }
     ensures crash { LeavesNoMore S.Store log.old log.new }
 {
@@ -37,7 +37,7 @@ fn value_at<S: Store>(alloc: Global, log: &mut Log<S>, key: &str) -> Result<Opti
 /// Writes bytes, and a newline.
 fn write_ended<W: Write>(out: &mut W, bytes: &[u8]) -> Result<(), Fault>
     ensures bytes { OnOk result (Appends (W.contents out.old) (W.contents out.new) (bytes.now ++ 10 ∷ [])) }
-    ensures faults { IfErr result IsFailure }
+    ensures faults { IfErr result IsCommandFailure }
 {
     out.write_all(bytes)?;
     out.write_all(b"\n")?;
@@ -57,7 +57,7 @@ pub fn get<S: Store, W: Write>(
 ) -> Result<(), Fault>
     ensures written { Shows S.Store log.old log.new result (WritesValue key.now W.contents out.old out.new) }
     ensures absent { Refuses S.Store log.old log.new result Fault.NoKey (λ trees. IsValueAt trees key.now None) }
-    ensures faults { IfErr result (λ why. why ≢ Fault.NoKey → IsFailure why) }
+    ensures faults { IfErr result (λ why. why ≢ Fault.NoKey → IsCommandFailure why) }
     ensures unchanged { StaysInOk S.Store log.old log.new result }
     ensures device { StaysAtDevice S.Store log.old log.new result }
     ensures crash { LeavesNoMore S.Store log.old log.new }
@@ -81,7 +81,7 @@ pub fn list<S: Store, W: Write>(
     listing: &Listing<'_>,
 ) -> Result<(), Fault>
     ensures written { Shows S.Store log.old log.new result (WritesList listing.now W.contents out.old out.new) }
-    ensures faults { IfErr result IsFailure }
+    ensures faults { IfErr result IsCommandFailure }
     ensures unchanged { StaysInOk S.Store log.old log.new result }
     ensures device { StaysAtDevice S.Store log.old log.new result }
     ensures crash { LeavesNoMore S.Store log.old log.new }
@@ -100,7 +100,7 @@ pub fn list<S: Store, W: Write>(
 /// A number, and one more where it is so.
 fn counted(number: usize, is_so: bool) -> Result<usize, Fault>
     ensures count { IfOk result (λ more. more ≡ number + (if is_so then 1 else 0)) }
-    ensures faults { IfErr result IsFailure }
+    ensures faults { IfErr result IsCommandFailure }
 {
     if !is_so {
         return Ok(number);
@@ -114,7 +114,7 @@ fn counted(number: usize, is_so: bool) -> Result<usize, Fault>
 /// The numbers of rows and of one more.
 fn summed(summary: &Summary, row: &(String, Register)) -> Result<Summary, Fault>
     ensures more { IfOk result (SumsOn summary.now row.now) }
-    ensures faults { IfErr result IsFailure }
+    ensures faults { IfErr result IsCommandFailure }
 {
     let keys = counted(summary.keys, row.1.value.is_some())?;
     let removed = counted(summary.removed, row.1.value.is_none())?;
@@ -133,7 +133,7 @@ fn summed(summary: &Summary, row: &(String, Register)) -> Result<Summary, Fault>
 pub fn sum_up<S: Store>(alloc: Global, log: &mut Log<S>) -> Result<(Summary, usize), Fault>
     ensures numbers { Finds S.Store log.old log.new result (λ trees sum. IsSummary trees sum.0) }
     ensures rows { Finds S.Store log.old log.new result (λ trees sum. sum.1 ≡ length (trees 0)) }
-    ensures faults { IfErr result IsFailure }
+    ensures faults { IfErr result IsCommandFailure }
     ensures unchanged { StaysInOk S.Store log.old log.new result }
     ensures steady { OnOk result (IsSteady S.Store log.old log.new) }
     ensures crash { LeavesNoMore S.Store log.old log.new }
@@ -160,7 +160,7 @@ pub fn sum_up<S: Store>(alloc: Global, log: &mut Log<S>) -> Result<(Summary, usi
 /// [`Fault::Store`] and [`Fault::Device`], where the store, memory or the output fails. Nothing is written to the file.
 pub fn count<S: Store, W: Write>(alloc: Global, log: &mut Log<S>, out: &mut W) -> Result<(), Fault>
     ensures written { Shows S.Store log.old log.new result (WritesCount W.contents out.old out.new) }
-    ensures faults { IfErr result IsFailure }
+    ensures faults { IfErr result IsCommandFailure }
     ensures unchanged { StaysInOk S.Store log.old log.new result }
     ensures crash { LeavesNoMore S.Store log.old log.new }
 {
@@ -172,7 +172,7 @@ pub fn count<S: Store, W: Write>(alloc: Global, log: &mut Log<S>, out: &mut W) -
 /// The numbers of the file in lines, and a name.
 fn status_lines(alloc: Global, summary: &Summary, rows: usize, name: &str) -> Result<String, Fault>
     ensures text { IfOk result (λ text. string_bytes text ≡ status_text summary.now rows name.now) }
-    ensures faults { IfErr result IsFailure }
+    ensures faults { IfErr result IsCommandFailure }
 {
     let Summary {
         keys,
@@ -187,7 +187,7 @@ fn status_lines(alloc: Global, summary: &Summary, rows: usize, name: &str) -> Re
 /// The numbers of the file and a name, as the members of an object of JSON, which go on.
 fn status_object(alloc: Global, summary: &Summary, rows: usize, name: &str) -> Result<String, Fault>
     ensures text { IfOk result (λ text. string_bytes text ≡ object_text summary.now rows name.now) }
-    ensures faults { IfErr result IsFailure }
+    ensures faults { IfErr result IsCommandFailure }
 {
     let Summary {
         keys,
@@ -209,7 +209,7 @@ fn status_of(
     json: bool,
 ) -> Result<String, Fault>
     ensures text { IfOk result (λ text. string_bytes text ≡ status_as json summary.now rows name.now) }
-    ensures faults { IfErr result IsFailure }
+    ensures faults { IfErr result IsCommandFailure }
 {
     if json {
         status_object(alloc, summary, rows, name)
@@ -232,7 +232,7 @@ pub fn status<S: Store, W: Write>(
     json: bool,
 ) -> Result<(), Fault>
     ensures written { Shows S.Store log.old log.new result (WritesStatus json name.now W.contents out.old out.new) }
-    ensures faults { IfErr result IsFailure }
+    ensures faults { IfErr result IsCommandFailure }
     ensures unchanged { StaysInOk S.Store log.old log.new result }
     ensures steady { OnOk result (IsSteady S.Store log.old log.new) }
     ensures crash { LeavesNoMore S.Store log.old log.new }
@@ -255,7 +255,7 @@ pub fn export<S: Store, W: Write + Drop>(
     out: W,
 ) -> Result<W, Fault>
     ensures written { Finds S.Store log.old log.new result (WritesPairs W.contents out) }
-    ensures faults { IfErr result IsFailure }
+    ensures faults { IfErr result IsCommandFailure }
     ensures unchanged { StaysInOk S.Store log.old log.new result }
     ensures device { StaysAtDevice S.Store log.old log.new result }
     ensures crash { LeavesNoMore S.Store log.old log.new }
@@ -283,7 +283,7 @@ pub fn export_log<S: Store, W: Write + Drop>(
 ) -> Result<(W, Vec<BadRow>), Fault>
     ensures written { Finds S.Store log.old log.new result (WritesSifted W.contents out) }
     ensures whole { Finds S.Store log.old log.new result (λ trees done. done.1.items ≡ [] → WritesLog W.contents out trees done.0) }
-    ensures faults { IfErr result IsFailure }
+    ensures faults { IfErr result IsCommandFailure }
     ensures unchanged { StaysInOk S.Store log.old log.new result }
     ensures device { StaysAtDevice S.Store log.old log.new result }
     ensures crash { LeavesNoMore S.Store log.old log.new }

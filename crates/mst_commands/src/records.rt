@@ -1,12 +1,12 @@
 //! Keys and values as CSV.
 ghost use Rattle.std.specs.Prelude.{◌≡◌, ◌≢◌, ◌<◌, [], ◌∷◌, length, string_bytes, true, false, IfOk, IfErr, OnOk, IfSome};
-ghost use Rattle.std.specs.Io.KnownBytes.{Appends, Keeps};
+ghost use Rattle.std.specs.Io.KnownBytes.{Keeps};
 ghost use Rattle.csv.specs.Records.{fields_of};
 ghost use Rattle.csv.specs.Writing.{text_written};
 ghost use Rattle.store_table.specs.Values.{IsValueOf};
 ghost use Rattle.mst_commands.specs.Records.{header, field_or_empty, pair_text, pairs_text, SaysPair, SaysChange, SaysEntry, SaysValue, SpellsNumber};
 ghost use Rattle.mst_commands.specs.Records.{HasEntries, HasRead, HasWritten, ReadsOne, WritesRecord, WritesRecords};
-ghost use Rattle.mst_commands.specs.Malformed.{EndsFor, IsFailure, IsImportRefused, IsNoName, IsParseRefused, SaysNoChange, SaysNone};
+ghost use Rattle.mst_commands.specs.Malformed.{EndsFor, IsCommandFailure, IsImportRefused, IsNoName, IsParseRefused, SaysNoChange, SaysNone};
 ghost use Rattle.mst_commands.specs.Quotes.{is_quoted};
 
 use crate::fault::{Fault, csv_fault, input_fault};
@@ -245,7 +245,7 @@ fn reader_of<R: Read>(alloc: Global, from: R) -> Reader<R>
 /// Reads the next record, and returns whether there was one.
 fn read_next<R: Read>(reader: &mut Reader<R>, row: &mut ByteRecord) -> Result<bool, Fault>
     ensures read { IfOk result (λ found. ReadsOne R.remaining reader.old reader.new found (fields_of row.new)) }
-    ensures faults { IfErr result IsFailure }
+    ensures faults { IfErr result IsCommandFailure }
 {
     match reader.read_byte_record(row) {
         Ok(found) => Ok(found),
@@ -278,7 +278,7 @@ fn parse_entries<R: Read + Drop>(alloc: Global, from: R, is_log: bool) -> Result
 /// The bytes that an input has to its end.
 fn read_all<R: Read + Drop>(alloc: Global, from: R) -> Result<Vec<u8>, Fault>
     ensures all { IfOk result (λ all. IfSome (R.remaining from) (λ bytes. all.items ≡ bytes)) }
-    ensures faults { IfErr result IsFailure }
+    ensures faults { IfErr result IsCommandFailure }
 {
     let mut bytes = Vec::new(alloc);
     let mut from = from;
@@ -311,7 +311,7 @@ fn write_pair<'a, W: Write + Drop>(
     value: &'a [u8],
 ) -> Result<(), Fault>
     ensures written { OnOk result (WritesRecord W.contents writer.old writer.new (key.now ∷ value.now ∷ [])) }
-    ensures faults { IfErr result IsFailure }
+    ensures faults { IfErr result IsCommandFailure }
 {
     match writer.write_fields(&[key.as_bytes(), value]) {
         Ok(()) => Ok(()),
@@ -325,7 +325,7 @@ pub fn write_row<W: Write + Drop>(
     row: &(String, Register),
 ) -> Result<(), Fault>
     ensures written { OnOk result (WritesRecords W.contents writer.old writer.new (pair_text row.now)) }
-    ensures faults { IfErr result IsFailure }
+    ensures faults { IfErr result IsCommandFailure }
 {
     match &row.1.value {
         Some(value) => write_pair(writer, row.0.as_str(), value.as_bytes()),
@@ -336,7 +336,7 @@ pub fn write_row<W: Write + Drop>(
 /// Hands back the output of a writer that has written all.
 pub fn finish<W: Write + Drop>(writer: Writer<W>) -> Result<W, Fault>
     ensures kept { IfOk result (λ out. Keeps (text_written W.contents writer) (W.contents out)) }
-    ensures faults { IfErr result IsFailure }
+    ensures faults { IfErr result IsCommandFailure }
 {
     match writer.into_inner() {
         Ok(out) => Ok(out),
@@ -347,7 +347,7 @@ pub fn finish<W: Write + Drop>(writer: Writer<W>) -> Result<W, Fault>
 /// A writer of CSV after the header of keys and values.
 pub fn begin_pairs<W: Write + Drop>(out: W) -> Result<Writer<W>, Fault>
     ensures begun { IfOk result (λ writer. HasWritten W.contents out writer (pairs_text [])) }
-    ensures faults { IfErr result IsFailure }
+    ensures faults { IfErr result IsCommandFailure }
 {
     let mut writer = Writer::from_writer(out);
     write_pair(&mut writer, "key", "value".as_bytes())?;

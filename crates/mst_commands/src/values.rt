@@ -1,7 +1,8 @@
 //! Values in a line, and as members of objects of JSON.
 ghost use Rattle.std.specs.Prelude.{◌≡◌, ◌≢◌, ◌++◌, ℕ, List, codes, string_bytes, IfOk};
-ghost use Rattle.mst_commands.specs.Escapes.{json_of, line_of};
-ghost use Rattle.mst_commands.specs.Values.{base64_of, value_line, value_member, said_member};
+ghost use Rattle.mst_commands.specs.Escapes.{json_of, escaped_line};
+ghost use Rattle.merkle_digest.specs.Digest.{base64_of};
+ghost use Rattle.mst_commands.specs.Values.{value_line, value_member, said_member};
 
 use crate::escape::{escape, json_string};
 use base64::engine::general_purpose::STANDARD;
@@ -70,5 +71,5 @@ pub fn said_as_member(alloc: Global, said: &Option<Value>) -> Result<String, All
 
 /// A line tells whether its value is a text: no text has a line that begins as the line of other bytes does. It has no effect and takes no memory.
 pub fn no_text_begins_as_bytes()
-    ensures { (text bytes : List ℕ) → line_of text ≢ codes "\\base64:" ++ bytes }
+    ensures { (text bytes : List ℕ) → escaped_line text ≢ codes "\\base64:" ++ bytes }
 {}

@@ -4,10 +4,10 @@ ghost use Rattle.key_order.specs.Text.{text_order};
 ghost use Rattle.key_order.specs.Map.{IsMap};
 ghost use Rattle.store_table.specs.Latest.{IsThere};
 ghost use Rattle.store_table.specs.Logs.{IsSteady, trees_of, Finds, Makes, Shows, Refuses, StaysInOk, StaysInErr, LeavesNoMore, Leaves};
-ghost use Rattle.store_table.specs.Values.{bytes_of};
+ghost use Rattle.store_table.specs.Values.{bytes_of_value};
 ghost use Rattle.mst_commands.specs.Faults.{IsAhead, IsTooLong};
 ghost use Rattle.mst_commands.specs.Writes.{is_met as says_it, is_text as is_same_text, IsMet, WritesBy, WritesIf};
-ghost use Rattle.mst_commands.specs.Malformed.{IsFailure};
+ghost use Rattle.mst_commands.specs.Malformed.{IsCommandFailure};
 ghost use Rattle.mst_commands.specs.Imports.{IsDated, AreDated, HaveFutureTime, is_newer, AddsOf, Imports};
 
 use crate::escape::cut;
@@ -45,7 +45,7 @@ pub fn within(bytes: &[u8], what: &'static str) -> Result<(), Fault>
 /// [`Fault::TooLong`], [`Fault::Device`], and [`Fault::Store`] when out of memory.
 pub fn read_bytes<R: Read + Drop>(alloc: Global, from: R) -> Result<Vec<u8>, Fault>
     ensures fits { IfOk result (λ bytes. length bytes.items ≤ MOST) }
-    ensures faults { IfErr result (λ why. ¬ IsTooLong why → IsFailure why) }
+    ensures faults { IfErr result (λ why. ¬ IsTooLong why → IsCommandFailure why) }
 {
     let mut bytes = Vec::new(alloc);
     let mut from = from.take(1_048_577);
@@ -73,12 +73,12 @@ pub fn put_value<S: Store>(
 ) -> Result<(), Fault>
     ensures written { Makes S.Store log.old log.new result (WritesBy key.now writer.now now (Some value)) }
     // A key or a value that is too long is refused, and nothing is written.
-    ensures fits { OnOk result (length key.now ≤ MOST × length (bytes_of value) ≤ MOST) }
-    ensures long { IfErr result (λ why. IsTooLong why → MOST < length key.now ⊎ MOST < length (bytes_of value)) }
+    ensures fits { OnOk result (length key.now ≤ MOST × length (bytes_of_value value) ≤ MOST) }
+    ensures long { IfErr result (λ why. IsTooLong why → MOST < length key.now ⊎ MOST < length (bytes_of_value value)) }
     ensures untouched { IfErr result (λ why. IsTooLong why → log.new ≡ log.old) }
     ensures refused { StaysInErr S.Store log.old log.new result }
     ensures steady { IsSteady S.Store log.old log.new }
-    ensures faults { IfErr result (λ why. ¬ IsTooLong why → IsFailure why) }
+    ensures faults { IfErr result (λ why. ¬ IsTooLong why → IsCommandFailure why) }
     // A crash leaves what it could leave before, or trees with the write.
     ensures crash { Leaves S.Store log.old log.new (WritesBy key.now writer.now now (Some value)) }
 {
@@ -121,7 +121,7 @@ fn expect<S: Store>(
 ) -> Result<(), Fault>
     ensures met { Shows S.Store log.old log.new result (IsMet wanted.entry key.now true) }
     ensures unmet { Refuses S.Store log.old log.new result Fault.Unmet (IsMet wanted.entry key.now false) }
-    ensures faults { IfErr result (λ why. why ≢ Fault.Unmet → IsFailure why) }
+    ensures faults { IfErr result (λ why. why ≢ Fault.Unmet → IsCommandFailure why) }
     ensures unchanged { StaysInOk S.Store log.old log.new result }
     ensures refused { StaysInErr S.Store log.old log.new result }
     ensures steady { IsSteady S.Store log.old log.new }
@@ -152,7 +152,7 @@ pub fn put_if<S: Store>(
     ensures written { Makes S.Store log.old log.new result (WritesIf wanted.entry key.now writer.now now (Some value)) }
     ensures unmet { Refuses S.Store log.old log.new result Fault.Unmet (IsMet wanted.entry key.now false) }
     ensures refused { StaysInErr S.Store log.old log.new result }
-    ensures faults { IfErr result (λ why. why ≢ Fault.Unmet → ¬ IsTooLong why → IsFailure why) }
+    ensures faults { IfErr result (λ why. why ≢ Fault.Unmet → ¬ IsTooLong why → IsCommandFailure why) }
     // A crash leaves what it could leave before, or trees with the write.
     ensures crash { Leaves S.Store log.old log.new (WritesIf wanted.entry key.now writer.now now (Some value)) }
 {
@@ -178,7 +178,7 @@ pub fn del<S: Store>(
     ensures absent { Refuses S.Store log.old log.new result Fault.NoKey (λ trees. IsThere trees key.now false) }
     ensures untouched { Refuses S.Store log.old log.new result Fault.NoKey (λ trees. trees_of S.Store log.new ≡ trees) }
     ensures refused { StaysInErr S.Store log.old log.new result }
-    ensures faults { IfErr result (λ why. why ≢ Fault.NoKey → IsFailure why) }
+    ensures faults { IfErr result (λ why. why ≢ Fault.NoKey → IsCommandFailure why) }
     // A crash leaves what it could leave before, or trees with the removal.
     ensures crash { Leaves S.Store log.old log.new (WritesBy key.now writer.now now None) }
 {
@@ -196,7 +196,7 @@ fn dated(
     entry: (String, Register),
 ) -> Result<(String, Register), Fault>
     ensures dated { IsMap text_order rows.now → IfOk result (λ dated. IsDated rows.now writer.now now entry dated) }
-    ensures faults { IfErr result IsFailure }
+    ensures faults { IfErr result IsCommandFailure }
 {
     let time = match register_in(rows, &entry.0) {
         Some(register) => register.time.checked_add(1),
@@ -225,7 +225,7 @@ fn all_dated(
     entries: Entries,
 ) -> Result<Entries, Fault>
     ensures dated { IsMap text_order rows.now → IfOk result (AreDated rows.now writer.now now entries) }
-    ensures faults { IfErr result IsFailure }
+    ensures faults { IfErr result IsCommandFailure }
 {
     let mut all = Vec::new(alloc);
     'entries: for entry in entries {
@@ -267,7 +267,7 @@ fn naming(alloc: Global, entry: &(String, Register)) -> Result<Named, AllocError
 
 /// The fault of an entry that is too far ahead of the clock.
 fn ahead_of(alloc: Global, entry: &(String, Register)) -> Fault
-    ensures { ¬ IsAhead result → IsFailure result }
+    ensures { ¬ IsAhead result → IsCommandFailure result }
 {
     match naming(alloc, entry) {
         Ok(entry) => Fault::Future(entry),
@@ -279,7 +279,7 @@ fn ahead_of(alloc: Global, entry: &(String, Register)) -> Fault
 fn not_above(alloc: Global, entries: &[(String, Register)], latest: u64) -> Result<(), Fault>
     ensures timely { OnOk result (All (λ entry. entry.1.time ≤ latest) entries.now) }
     ensures future { IfErr result (λ why. HaveFutureTime latest entries.now) }
-    ensures faults { IfErr result (λ why. ¬ IsAhead why → IsFailure why) }
+    ensures faults { IfErr result (λ why. ¬ IsAhead why → IsCommandFailure why) }
 {
     'entries: for entry in entries {
         if entry.1.time > latest {
@@ -303,7 +303,7 @@ fn entries_to_add<S: Store>(
     ensures refused { StaysInErr S.Store log.old log.new result }
     ensures steady { IsSteady S.Store log.old log.new }
     ensures crash { LeavesNoMore S.Store log.old log.new }
-    ensures faults { IfErr result (λ why. ¬ IsAhead why → IsFailure why) }
+    ensures faults { IfErr result (λ why. ¬ IsAhead why → IsCommandFailure why) }
 {
     let rows = read_latest(alloc, log)?;
     let mut last = latest_rows(came);
@@ -332,7 +332,7 @@ pub fn import<S: Store>(
     ensures written { Makes S.Store log.old log.new result (Imports came.items limit writer.now now) }
     ensures refused { StaysInErr S.Store log.old log.new result }
     // But for an entry of a log that is too late it fails only if memory or the store does.
-    ensures faults { IfErr result (λ why. ¬ IsAhead why → IsFailure why) }
+    ensures faults { IfErr result (λ why. ¬ IsAhead why → IsCommandFailure why) }
     // A crash leaves what it could leave before, or trees with all that is imported.
     ensures crash { Leaves S.Store log.old log.new (Imports came.items limit writer.now now) }
 {

@@ -3,7 +3,7 @@ use Rattle.std.proofs.Common.{subst, ◌≡◌, ℕ, List, [], ◌++◌, Option,
 use Rattle.std.proofs.lemmas.List.{take_rest}
 use Rattle.std.proofs.KnownBytes.{Appends-trans}
 use Rattle.std.specs.Io.KnownBytes.{Appends, Keeps}
-use Rattle.mst_pair.specs.Devices.{KeepsOrHides, AppendsOrHides, Writes, WritesPart, Passes}
+use Rattle.mst_pair.specs.Devices.{KeepsOrHides, AppendsOrHides, WritesBytes, WritesPart, Passes}
 
 -- after a write of n bytes, what is left of all to write
 pub moves_front : (all done rest : List ℕ) (n : ℕ) → all ≡ done ++ rest → all ≡ (done ++ take n rest) ++ take (length rest - n) (drop n rest)
@@ -23,7 +23,7 @@ appends_or_hides_after (Some x) None (Some z) bs cs p q = absurd p
 appends_or_hides_after (Some x) (Some y) (Some z) bs cs p q = q ∙ ap (λ l. l ++ cs) p ∙ append_assoc x bs cs
 
 -- two writes one after the other
-pub writes_after : {A E : Type 0} → (r : Result A E) (a b c : Option (List ℕ)) (bs cs : List ℕ) → Appends a b bs → Writes r b c cs → Writes r a c (bs ++ cs)
+pub writes_after : {A E : Type 0} → (r : Result A E) (a b c : Option (List ℕ)) (bs cs : List ℕ) → Appends a b bs → WritesBytes r b c cs → WritesBytes r a c (bs ++ cs)
 writes_after (Ok x) a b c bs cs p q = Appends-trans a b c bs cs p q
 writes_after (Err e) a b c bs cs p (front, rest, split, hides) = (bs ++ front, rest, ap (λ l. bs ++ l) split ∙ sym (append_assoc bs front rest), appends_or_hides_after a b c bs front p hides)
 
@@ -36,7 +36,7 @@ pub writes_part_after : (a b c : Option (List ℕ)) (bs cs : List ℕ) → Appen
 writes_part_after a b c bs cs p (front, rest, split, hides) = (bs ++ front, rest, ap (λ l. bs ++ l) split ∙ sym (append_assoc bs front rest), appends_or_hides_after a b c bs front p hides)
 
 -- a failed call wrote a beginning
-pub writes_err : {A E : Type 0} (r : Result A E) (a c : Option (List ℕ)) (bs : List ℕ) → IsErr r → WritesPart a c bs → Writes r a c bs
+pub writes_err : {A E : Type 0} (r : Result A E) (a c : Option (List ℕ)) (bs : List ℕ) → IsErr r → WritesPart a c bs → WritesBytes r a c bs
 writes_err (Ok x) a c bs err part = absurd (cc)
 writes_err (Err e) a c bs err part = part
 
@@ -77,13 +77,13 @@ passes_err (Ok x) a c p xs q err part = absurd (cc)
 passes_err (Err e) a c p xs q err part = part
 
 -- pending text is written, and then text beside it
-pub passes_written : {A E : Type 0} → (r : Result A E) (a b c : Option (List ℕ)) (p xs q : List ℕ) → Appends a b p → q ≡ [] → Writes r b c xs → Passes r a c p xs q
+pub passes_written : {A E : Type 0} → (r : Result A E) (a b c : Option (List ℕ)) (p xs q : List ℕ) → Appends a b p → q ≡ [] → WritesBytes r b c xs → Passes r a c p xs q
 passes_written (Ok x) a b c p xs q before empty after = (p ++ xs, Appends-trans a b c p xs before after, sym (ap (λ t. (p ++ xs) ++ t) empty ∙ append-nil (p ++ xs)))
 passes_written (Err e) a b c p xs q before empty part = writes_part_after a b c p xs before part
 
 -- what is pending in the end is written
-pub writes_flushed : {A E : Type 0} → (r : Result A E) (a b c : Option (List ℕ)) (p q xs : List ℕ) → Passed a b p xs q → Writes r b c q → Writes r a c (p ++ xs)
-writes_flushed r a b c p q xs (written, before, split) flushed = subst (Writes r a c) (sym split) (writes_after r a b c written q before flushed)
+pub writes_flushed : {A E : Type 0} → (r : Result A E) (a b c : Option (List ℕ)) (p q xs : List ℕ) → Passed a b p xs q → WritesBytes r b c q → WritesBytes r a c (p ++ xs)
+writes_flushed r a b c p q xs (written, before, split) flushed = subst (WritesBytes r a c) (sym split) (writes_after r a b c written q before flushed)
 
 -- the text that was added, under another name
 pub passed_as : (a b : Option (List ℕ)) (p xs ys q : List ℕ) → xs ≡ ys → Passed a b p xs q → Passed a b p ys q

@@ -60,7 +60,8 @@ spelled_by (turns d) word arguments line w e (small, g) = let at = by_fields (co
 spelled_by (set_format format) word arguments line w e g = by_fields (codes "format") _ word arguments line w refl e g
 
 -- what is no request by its word and arguments is none by its line
-pub bad_command : {C : Type 0} (Found : C → Type 0) (r : Option C) (word arguments line : List ℕ) → HasNoSpace word → line ≡ word ++ space ∷ arguments → MatchOption r ((q : Request) → IsSpelledBy q word arguments → ⊥) Found → IfNone r (IsBad line)
+pub bad_command : {C : Type 0} (Found : C → Type 0) (r : Option C) (word arguments line : List ℕ) → HasNoSpace word → line ≡ word ++ space ∷ arguments
+    → MatchOption r ((q : Request) → IsSpelledBy q word arguments → ⊥) Found → IfNone r (IsBad line)
 bad_command Found None word arguments line w e refuted = λ q spelled. refuted q (spelled_by q word arguments line w e spelled)
 bad_command Found (Some c) word arguments line w e found = tt
 
@@ -69,7 +70,8 @@ Follows : List ℕ → List ℕ → Type 0
 Follows word rest = ((word ≡ codes "put") × ((key : List ℕ) × (n : ℕ) × IsRowText rest key n)) ⊎ ((word ≡ codes "del") × IsKey rest)
 
 -- `put` and `del` are the words of three letters
-named : (word arguments : List ℕ) → length word ≡ 3 → ((name : ReplicaName) (rest : List ℕ) → Follows word rest → arguments ≡ name_text name ++ space ∷ rest → ⊥) → (q : Request) → IsSpelledBy q word arguments → ⊥
+named : (word arguments : List ℕ) → length word ≡ 3
+    → ((name : ReplicaName) (rest : List ℕ) → Follows word rest → arguments ≡ name_text name ++ space ∷ rest → ⊥) → (q : Request) → IsSpelledBy q word arguments → ⊥
 unfolding Follows
 named word arguments short refuted (put name key n) (w, (digits, k, number, a)) = refuted name (fields (key ∷ digits ∷ [])) (inl (w, (key, n, (digits, k, number, refl)))) a
 named word arguments short refuted (del name key) (w, (k, a)) = refuted name key (inr (w, k)) a
@@ -83,17 +85,21 @@ named word arguments short refuted (turns d) (w, small, a) = absurd (omega (arit
 named word arguments short refuted (set_format format) (w, a) = absurd (omega (arith, short, ap length w))
 
 -- arguments whose first field names no replica
-pub bad_name : (word name rest arguments : List ℕ) → length word ≡ 3 → HasNoSpace name → arguments ≡ name ++ space ∷ rest → ((n : ReplicaName) → name ≢ name_text n) → (q : Request) → IsSpelledBy q word arguments → ⊥
+pub bad_name : (word name rest arguments : List ℕ) → length word ≡ 3 → HasNoSpace name → arguments ≡ name ++ space ∷ rest
+    → ((n : ReplicaName) → name ≢ name_text n) → (q : Request) → IsSpelledBy q word arguments → ⊥
 bad_name word name rest arguments short none e no_name =
     named word arguments short (λ other follows behind a. no_name other (first_unique name (name_text other) rest follows none (no_space_name other) (sym e ∙ a)).0)
 
 -- arguments that name a replica, and what is after it may not follow
-bad_rest : (word : List ℕ) (name : ReplicaName) (rest arguments : List ℕ) → length word ≡ 3 → arguments ≡ name_text name ++ space ∷ rest → (Follows word rest → ⊥) → (q : Request) → IsSpelledBy q word arguments → ⊥
+bad_rest : (word : List ℕ) (name : ReplicaName) (rest arguments : List ℕ) → length word ≡ 3 → arguments ≡ name_text name ++ space ∷ rest
+    → (Follows word rest → ⊥) → (q : Request) → IsSpelledBy q word arguments → ⊥
 bad_rest word name rest arguments short e no_rest =
-    named word arguments short (λ other follows behind a. no_rest (subst (Follows word) (sym (first_unique (name_text name) (name_text other) rest follows (no_space_name name) (no_space_name other) (sym e ∙ a)).1) behind))
+    named word arguments short (λ other follows behind a. no_rest
+    (subst (Follows word) (sym (first_unique (name_text name) (name_text other) rest follows (no_space_name name) (no_space_name other) (sym e ∙ a)).1) behind))
 
 -- arguments of `put` that name a replica and have no row
-pub bad_row : (name : ReplicaName) (rest arguments : List ℕ) → arguments ≡ name_text name ++ space ∷ rest → ((key : List ℕ) (n : ℕ) → IsRowText rest key n → ⊥) → (q : Request) → IsSpelledBy q (codes "put") arguments → ⊥
+pub bad_row : (name : ReplicaName) (rest arguments : List ℕ) → arguments ≡ name_text name ++ space ∷ rest → ((key : List ℕ) (n : ℕ) → IsRowText rest key n → ⊥)
+    → (q : Request) → IsSpelledBy q (codes "put") arguments → ⊥
 unfolding Follows
 bad_row name rest arguments e no_row =
     bad_rest (codes "put") name rest arguments refl e (elim [ inl row ↦ no_row row.1.0 row.1.1 row.1.2 | inr key ↦ absurd (omega (arith, ap (λ xs. get_or xs 0 0) key.0)) ])

@@ -27,6 +27,7 @@ cut_more xs b n = elim (cases_lt (length xs) n) [
 ]
 
 -- a byte is added where there is room, and else nothing changes
-pub pushed : {E : Type 0} (r : Result (Unit {0}) E) (old new : ArrayVec ℕ) (b n : ℕ) → (IsOk r → length old.items < n) → OnOk r (new.items ≡ old.items ++ b ∷ []) → OnErr r (new ≡ old) → OnErr r (length old.items ≡ n) → new.items ≡ take n (old.items ++ b ∷ [])
+pub pushed : {E : Type 0} (r : Result (Unit {0}) E) (old new : ArrayVec ℕ) (b n : ℕ) → (IsOk r → length old.items < n)
+    → OnOk r (new.items ≡ old.items ++ b ∷ []) → OnErr r (new ≡ old) → OnErr r (length old.items ≡ n) → new.items ≡ take n (old.items ++ b ∷ [])
 pushed (Ok x) old new b n room added same full = added ∙ takes_room old.items b n (room refl)
 pushed (Err e) old new b n room added same full = ap (λ (v : ArrayVec ℕ). v.items) same ∙ takes_full old.items b n full

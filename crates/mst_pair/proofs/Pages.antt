@@ -15,8 +15,8 @@ use Rattle.merkle_tree_theory.specs.State.{map_of}
 use Rattle.merkle_tree_theory.specs.Tree.{Tree}
 use Rattle.merkle_tree_theory.specs.TreeOf.{defined_tree}
 use Rattle.merkle_replica.specs.Contents.{Contents}
-use Rattle.mst_pair.specs.Pages.{tree, page_ranges, HasDefaults}
-use Rattle.mst_pair.specs.Replies.{text_line, range_text, ranges_text, end_line}
+use Rattle.mst_pair.specs.Pages.{tree, ranges_of_rows, HasDefaults}
+use Rattle.mst_pair.specs.Replies.{reply_line, range_text, ranges_text, end_line}
 use Rattle.mst_pair.specs.Replicas.{TextRow}
 use Rattle.merkle_tree_theory.specs.declared.page_format.PageFormat.{PageFormat}
 
@@ -25,7 +25,8 @@ same_text : (x y : Text) → Same text_order x y → string_bytes x ≡ string_b
 same_text x y e = exact_bytes (string_bytes x) (string_bytes y) e
 
 -- the pages are the tree of the rows, apart from caches, where a map has one tree
-pub pages_are : ((hasher : List ℕ) (base : ℕ) (m : List (Text × List ℕ)) (t : Tree Text (List ℕ)) → IsTreeOf text_order (text_digest hasher) base t m → SamePages text_order t (defined_tree (text_digest hasher) base m))
+pub pages_are : ((hasher : List ℕ) (base : ℕ) (m : List (Text × List ℕ)) (t : Tree Text (List ℕ)) → IsTreeOf text_order (text_digest hasher) base t m
+    → SamePages text_order t (defined_tree (text_digest hasher) base m))
     → (format : PageFormat) (c : Contents Text ℕ (List ℕ)) → HasDefaults format c → IsSound text_order text_digest string_bytes c.tree
     → SameMap text_order (λ d e. d ≡ e) (map_of c.tree) (digests (number_digest c.tree.hasher) c.rows) → SamePages text_order c.tree.root (tree c.rows)
 pages_are only format c (hasher, base, same_format) sound digested =
@@ -36,8 +37,9 @@ same_lines : (es fs : List (Entry Text (List ℕ))) → SameEntries text_order e
 same_lines [] [] s = refl
 same_lines [] (f ∷ fs) s = absurd s
 same_lines (e ∷ es) [] s = absurd s
-same_lines (e ∷ es) (f ∷ fs) s = λ i. text_line (same_text e.first f.first s.0.0.0 i ++ codes " " ++ same_text e.last f.last s.0.0.1 i) ++ same_lines es fs s.1 i
+same_lines (e ∷ es) (f ∷ fs) s = λ i. reply_line (same_text e.first f.first s.0.0.0 i ++ codes " " ++ same_text e.last f.last s.0.0.1 i) ++ same_lines es fs s.1 i
 
 -- and page ranges that equal those of the tree of the rows are shown as these
-pub ranges_are : (format : PageFormat) (rows : List TextRow) (es : List (Entry Text (List ℕ))) → SameEntries text_order es (page_ranges format rows) → ranges_text (map span_of es) ≡ ranges_text (map span_of (page_ranges format rows))
-ranges_are format rows es same = ap (λ lines. lines ++ end_line) (same_lines es (page_ranges format rows) same)
+pub ranges_are : (format : PageFormat) (rows : List TextRow) (es : List (Entry Text (List ℕ))) → SameEntries text_order es (ranges_of_rows format rows)
+    → ranges_text (map span_of es) ≡ ranges_text (map span_of (ranges_of_rows format rows))
+ranges_are format rows es same = ap (λ lines. lines ++ end_line) (same_lines es (ranges_of_rows format rows) same)

@@ -3,7 +3,7 @@ use Rattle.std.proofs.Common.{◌≡◌, ◌≤◌, ℕ, List, ◌∷◌, ◌++�
 use Rattle.std.proofs.lemmas.Bool.{cases_lt}
 use Rattle.std.proofs.Math.ListN.{length-take}
 use Rattle.mst_pair.specs.Replicas.{Replicas}
-use Rattle.mst_pair.specs.Engine.{Step}
+use Rattle.mst_pair.specs.Engine.{RepliesTo}
 use Rattle.mst_pair.specs.Requests.{Request, put, del, keys, root, pages, diff, pull, same, turns, set_format, IsSpelled, name_text, space}
 use Rattle.mst_pair.specs.declared.engine.ReplicaName.{ReplicaName}
 use Rattle.merkle_tree_theory.specs.declared.page_format.PageFormat.TheVariants.{V1, V2}
@@ -24,7 +24,8 @@ named_is_short word name line short e =
 pub spelled_is_short : (q : Request) (line : List ℕ) → IsSpelled q line → length line ≤ 282
 spelled_is_short (put name key n) line (digits, k, number, e) =
     let tail : length (key ++ space ∷ digits) ≤ 276 = omega (arith, length-append key (space ∷ digits), k.short, number.short) in
-    let whole : length (codes "put" ++ space ∷ (name_text name ++ space ∷ (key ++ space ∷ digits))) ≤ 282 = omega (arith, length-append (name_text name) (space ∷ (key ++ space ∷ digits)), name_is_short name) in
+    let whole : length (codes "put" ++ space ∷ (name_text name ++ space ∷ (key ++ space ∷ digits))) ≤ 282 =
+    omega (arith, length-append (name_text name) (space ∷ (key ++ space ∷ digits)), name_is_short name) in
     subst (λ l. length l ≤ 282) (sym e) whole
 spelled_is_short (del name key) line (k, e) =
     let whole : length (codes "del" ++ space ∷ (name_text name ++ space ∷ key)) ≤ 282 = omega (arith, length-append (name_text name) (space ∷ key), name_is_short name, k.short) in
@@ -40,9 +41,9 @@ spelled_is_short (set_format V1) line e = subst (λ l. length l ≤ 282) (sym e)
 spelled_is_short (set_format V2) line e = subst (λ l. length l ≤ 282) (sym e) (omega arith)
 
 -- a line gets the replies that its first 283 bytes get
-pub step_of_kept : (old : Replicas) (line reply : List ℕ) (new : Replicas) → Step old (take 283 line) reply new → Step old line reply new
+pub step_of_kept : (old : Replicas) (line reply : List ℕ) (new : Replicas) → RepliesTo old (take 283 line) reply new → RepliesTo old line reply new
 step_of_kept old line reply new step = elim (cases_lt (length line) 283) [
-  | inl short ↦ let e = take_short line 283 short in subst (λ l. Step old l reply new) e step
+  | inl short ↦ let e = take_short line 283 short in subst (λ l. RepliesTo old l reply new) e step
   | inr long ↦ elim step [
     | inl (q, spelled, answers) ↦ absurd (omega (arith, spelled_is_short q (take 283 line) spelled, length-take 283 line))
     | inr (bad, text, stays) ↦ inr (λ q spelled. omega (arith, spelled_is_short q line spelled), text, stays)

@@ -55,9 +55,9 @@ abbrev pub WritesPart : Option (List ℕ) → Option (List ℕ) → List ℕ →
 WritesPart old new bs = (front : List ℕ) × (rest : List ℕ) × (bs ≡ front ++ rest) × AppendsOrHides old new front
 
 -- a call that writes bs wrote all of it, or at an error a beginning of it
-abbrev pub Writes : {A E : Type 0} → Result A E → Option (List ℕ) → Option (List ℕ) → List ℕ → Type 0
-Writes (Ok x) old new bs = Appends old new bs
-Writes (Err e) old new bs = WritesPart old new bs
+abbrev pub WritesBytes : {A E : Type 0} → Result A E → Option (List ℕ) → Option (List ℕ) → List ℕ → Type 0
+WritesBytes (Ok x) old new bs = Appends old new bs
+WritesBytes (Err e) old new bs = WritesPart old new bs
 
 -- Text that was pending, and bs after it, was written but for what is pending now; at an error a beginning of it was.
 abbrev pub Passes : {A E : Type 0} → Result A E → Option (List ℕ) → Option (List ℕ) → List ℕ → List ℕ → List ℕ → Type 0

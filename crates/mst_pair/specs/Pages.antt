@@ -22,12 +22,12 @@ abbrev pub tree : List TextRow → Tree Text (List ℕ)
 tree rows = defined_tree (text_digest zero_key) 16 (digests (number_digest zero_key) rows)
 
 -- its page ranges
-abbrev pub page_ranges : PageFormat → List TextRow → List (Entry Text (List ℕ))
-page_ranges format rows = ranges_of format string_bytes (tree rows)
+abbrev pub ranges_of_rows : PageFormat → List TextRow → List (Entry Text (List ℕ))
+ranges_of_rows format rows = ranges_of format string_bytes (tree rows)
 
 -- the digest of its root page
-abbrev pub root_digest : PageFormat → List TextRow → List ℕ
-root_digest format rows = page_digest format string_bytes (tree rows)
+abbrev pub digest_of_rows : PageFormat → List TextRow → List ℕ
+digest_of_rows format rows = page_digest format string_bytes (tree rows)
 
 -- what pulls need to know of texts and numbers, under SipHash
 abbrev pub text_laws : Laws Text ℕ (List ℕ)
@@ -41,8 +41,8 @@ text_laws = record {
 }
 
 -- these rows in such a tree
-abbrev pub side_of : PageFormat → List TextRow → Side Text ℕ (List ℕ)
-side_of format rows = record { hasher = zero_key; base = 16; format = format; rows = rows }
+abbrev pub pair_side : PageFormat → List TextRow → Side Text ℕ (List ℕ)
+pair_side format rows = record { hasher = zero_key; base = 16; format = format; rows = rows }
 
 -- the replica has the default hasher and level base, and this page format
 abbrev pub HasDefaults : PageFormat → Contents Text ℕ (List ℕ) → Type 0
@@ -50,11 +50,11 @@ HasDefaults format c = HasSettings (default_settings format) c.tree
 
 -- the tree of the replica has the root digest, and the page ranges as they are shown, of the tree of its rows
 abbrev pub HasItsRoot : PageFormat → Contents Text ℕ (List ℕ) → Type 0
-HasItsRoot format c = page_digest c.tree.format string_bytes c.tree.root ≡ root_digest format c.rows
+HasItsRoot format c = page_digest c.tree.format string_bytes c.tree.root ≡ digest_of_rows format c.rows
 
 abbrev pub ShowsItsPages : PageFormat → Contents Text ℕ (List ℕ) → Type 0
-ShowsItsPages format c = ranges_text (map span_of (ranges_of c.tree.format string_bytes c.tree.root)) ≡ ranges_text (map span_of (page_ranges format c.rows))
+ShowsItsPages format c = ranges_text (map span_of (ranges_of c.tree.format string_bytes c.tree.root)) ≡ ranges_text (map span_of (ranges_of_rows format c.rows))
 
 -- the digest is that of the root page of the replica's rows, in its page format, where it has the default hasher and level base
 abbrev pub IsItsRoot : Contents Text ℕ (List ℕ) → List ℕ → Type 0
-IsItsRoot c digest = (format : PageFormat) → HasDefaults format c → digest ≡ root_digest format c.rows
+IsItsRoot c digest = (format : PageFormat) → HasDefaults format c → digest ≡ digest_of_rows format c.rows

@@ -19,8 +19,8 @@ pub record Replicas : Type 0 where
   pub format : PageFormat
 
 -- both replicas are empty, in format 1
-abbrev pub start : Replicas
-start = record { a = []; b = []; format = V1 }
+abbrev pub empty_replicas : Replicas
+empty_replicas = record { a = []; b = []; format = V1 }
 
 -- neither replica has a row
 abbrev pub HasNoRow : Replicas → Type 0

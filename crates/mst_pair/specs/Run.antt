@@ -3,24 +3,24 @@ use Rattle.std.specs.Prelude.{◌≡◌, ℕ, List, [], ◌∷◌, ◌++◌, Opt
 use Rattle.std.specs.Io.KnownBytes.{Consumes, Appends, IsAtEnd}
 use Rattle.mst_pair.specs.Devices.{ConsumesOrHides, AppendsOrHides}
 use Rattle.mst_pair.specs.Lines.{lines_of, whole_lines}
-use Rattle.mst_pair.specs.Replicas.{Replicas, start}
-use Rattle.mst_pair.specs.Engine.{Step}
+use Rattle.mst_pair.specs.Replicas.{Replicas, empty_replicas}
+use Rattle.mst_pair.specs.Engine.{RepliesTo}
 use Rattle.mst_pair.specs.declared.run.RunFault.{RunFault}
 use Rattle.mst_pair.specs.declared.run.RunFault.TheVariants.{Read, Write}
 
 -- from old, the lines may get replies that are written like this, one after the other, and leave new
 abbrev pub Run : Replicas → List (List ℕ) → List ℕ → Replicas → Type 0
 Run old [] written new = (written ≡ []) × (new ≡ old)
-Run old (line ∷ lines) written new = (reply : List ℕ) × (rest : List ℕ) × (mid : Replicas) × Step old line reply mid × Run mid lines rest new × (written ≡ reply ++ rest)
+Run old (line ∷ lines) written new = (reply : List ℕ) × (rest : List ℕ) × (mid : Replicas) × RepliesTo old line reply mid × Run mid lines rest new × (written ≡ reply ++ rest)
 
 -- from two empty replicas, the lines may get replies that are written like this
 abbrev pub Replies : List (List ℕ) → List ℕ → Type 0
-Replies lines written = (new : Replicas) × Run start lines written new
+Replies lines written = (new : Replicas) × Run empty_replicas lines written new
 
 -- a beginning of a reply to the first of the lines, and nothing where there is none
 abbrev pub BeginsReply : Replicas → List (List ℕ) → List ℕ → Type 0
 BeginsReply s [] front = front ≡ []
-BeginsReply s (line ∷ lines) front = (rest : List ℕ) × (new : Replicas) × Step s line (front ++ rest) new
+BeginsReply s (line ∷ lines) front = (rest : List ℕ) × (new : Replicas) × RepliesTo s line (front ++ rest) new
 
 -- whole replies to some first lines, and a beginning of the reply to the next
 pub record RepliesCut (lines : List (List ℕ)) (written : List ℕ) : Type 0 where
@@ -30,7 +30,7 @@ pub record RepliesCut (lines : List (List ℕ)) (written : List ℕ) : Type 0 wh
   pub front : List ℕ
   pub mid : Replicas
   pub lines_are : lines ≡ answered ++ others
-  pub run : Run start answered whole mid
+  pub run : Run empty_replicas answered whole mid
   pub begins : BeginsReply mid others front
   pub written_is : written ≡ whole ++ front
 

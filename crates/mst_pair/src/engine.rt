@@ -1,9 +1,9 @@
 //! The engine: two replicas, and what the lines do to them.
 ghost use Rattle.std.specs.Prelude.{◌≡◌, ◌↔◌, [], if◌then◌else◌, map, length, OnOk, OnErr, IfOk, IsTrue};
 ghost use Rattle.merkle_replica.specs.Answers.{spans_of, answer_of};
-ghost use Rattle.mst_pair.specs.Engine.{MayAsk, HasPulled, StopsInPull, HavePulledByTurns, StopsInTurns};
-ghost use Rattle.mst_pair.specs.Pages.{root_digest};
-ghost use Rattle.mst_pair.specs.Replicas.{Replicas, start, rows, other_rows, HasNoRow, JoinsRow, DeletesRow};
+ghost use Rattle.mst_pair.specs.Engine.{MayAskOther, PullsFromOther, StopsInPull, PullByTurns, StopsInTurns};
+ghost use Rattle.mst_pair.specs.Pages.{digest_of_rows};
+ghost use Rattle.mst_pair.specs.Replicas.{Replicas, empty_replicas, rows, other_rows, HasNoRow, JoinsRow, DeletesRow};
 
 use crate::text_replica::{TextReplica, root_hash_of};
 use merkle_digest::RootHash;
@@ -43,7 +43,7 @@ impl Model for Engine {
 impl Engine {
     /// Two empty replicas in format 1. It takes no memory.
     pub fn new(alloc: Global) -> Self
-        ensures { result ≡ start }
+        ensures { result ≡ empty_replicas }
     {
         Engine {
             alloc,
@@ -108,7 +108,7 @@ impl Engine {
 
     /// The root hash of a replica.
     pub fn root_hash(&mut self, name: ReplicaName) -> RootHash
-        ensures digest { result ≡ root_digest self.old.format (rows self.old name) }
+        ensures digest { result ≡ digest_of_rows self.old.format (rows self.old name) }
         ensures same { self.new ≡ self.old }
     {
         match name {
@@ -119,7 +119,7 @@ impl Engine {
 
     /// The ranges of keys that a replica may ask the other for.
     pub fn ranges_to_ask(&mut self, name: ReplicaName) -> Result<Vec<(String, String)>, AllocError>
-        ensures ranges { IfOk result (λ found. MayAsk self.old name (spans_of found.items)) }
+        ensures ranges { IfOk result (λ found. MayAskOther self.old name (spans_of found.items)) }
         ensures same { self.new ≡ self.old }
     {
         match name {
@@ -130,7 +130,7 @@ impl Engine {
 
     /// Has a replica pull from the other.
     pub fn pull(&mut self, name: ReplicaName) -> Result<Pulled<String>, PullError<String>>
-        ensures ok { IfOk result (λ pulled. HasPulled self.old name self.new (answer_of pulled)) }
+        ensures ok { IfOk result (λ pulled. PullsFromOther self.old name self.new (answer_of pulled)) }
         ensures err { OnErr result (StopsInPull self.old name self.new) }
         ensures other { other_rows self.new name ≡ other_rows self.old name }
         ensures format { self.new.format ≡ self.old.format }
@@ -143,7 +143,7 @@ impl Engine {
 
     /// Whether the root hashes are equal.
     pub fn is_same(&mut self) -> bool
-        ensures value { IsTrue result ↔ (root_digest self.old.format self.old.a ≡ root_digest self.old.format self.old.b) }
+        ensures value { IsTrue result ↔ (digest_of_rows self.old.format self.old.a ≡ digest_of_rows self.old.format self.old.b) }
         ensures same { self.new ≡ self.old }
     {
         root_hash_of(&mut self.a) == root_hash_of(&mut self.b)
@@ -153,7 +153,7 @@ impl Engine {
     pub fn take_turns(&mut self, count: u8) -> Result<Vec<Pulled<String>>, TurnsError<String>>
         ensures length { IfOk result (λ all. length all.items ≡ count) }
         ensures format { self.new.format ≡ self.old.format }
-        ensures ok { IfOk result (λ all. HavePulledByTurns self.old self.new (map answer_of all.items)) }
+        ensures ok { IfOk result (λ all. PullByTurns self.old self.new (map answer_of all.items)) }
         ensures err { OnErr result (StopsInTurns self.old.format count self.old.a self.old.b self.new.a self.new.b) }
     {
         pull_by_turns(self.alloc, &mut self.a, &mut self.b, usize::from(count))

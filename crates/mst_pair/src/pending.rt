@@ -1,6 +1,6 @@
 //! Text that is put together before it is written.
 ghost use Rattle.std.specs.Prelude.{◌≡◌, ℕ, List, []};
-ghost use Rattle.mst_pair.specs.Devices.{Writes, Passes, MarksFailure};
+ghost use Rattle.mst_pair.specs.Devices.{WritesBytes, Passes, MarksFailure};
 
 use crate::sink::{Sink, write_all};
 use crate::source::Failed;
@@ -47,7 +47,7 @@ impl Pending {
 
     /// Writes the text that is pending.
     pub fn flush<W: Sink>(&mut self, writer: &mut W) -> Result<(), Failed>
-        ensures bytes { Writes result (W.taken writer.old) (W.taken writer.new) self.old }
+        ensures bytes { WritesBytes result (W.taken writer.old) (W.taken writer.new) self.old }
         ensures empty { self.new ≡ [] }
         ensures failed { MarksFailure result (W.has_failed writer.old) (W.has_failed writer.new) }
     {

@@ -4,9 +4,9 @@ ghost use Rattle.std.specs.Fmt.{decimal};
 ghost use Rattle.std.specs.List.{flat_map};
 ghost use Rattle.merkle_digest.specs.Digest.{base64_of};
 ghost use Rattle.merkle_replica.specs.Answers.{answer_of};
-ghost use Rattle.mst_pair.specs.Devices.{Writes, Passes, MarksFailure};
+ghost use Rattle.mst_pair.specs.Devices.{WritesBytes, Passes, MarksFailure};
 ghost use Rattle.mst_pair.specs.Engine.{no_memory};
-ghost use Rattle.mst_pair.specs.Replies.{text_line, end_line, row_text, range_text, joined_text, pull_text};
+ghost use Rattle.mst_pair.specs.Replies.{reply_line, end_line, row_text, range_text, joined_text, pull_reply};
 
 use crate::pending::Pending;
 use crate::sink::{Sink, write_all};
@@ -68,7 +68,7 @@ impl ReplyLine for Pulled<String> {
 
 /// Writes that memory ran out.
 pub fn write_no_memory<W: Sink>(writer: &mut W) -> Result<(), Failed>
-    ensures bytes { Writes result (W.taken writer.old) (W.taken writer.new) no_memory }
+    ensures bytes { WritesBytes result (W.taken writer.old) (W.taken writer.new) no_memory }
     ensures failed { MarksFailure result (W.has_failed writer.old) (W.has_failed writer.new) }
 {
     write_all(writer, b"no memory\n")
@@ -79,7 +79,7 @@ const ROOT_LINE: usize = 25;
 
 /// Writes a root hash in base64.
 pub fn write_root<W: Sink>(hash: &RootHash, writer: &mut W) -> Result<(), Failed>
-    ensures bytes { Writes result (W.taken writer.old) (W.taken writer.new) (text_line (base64_of hash.now)) }
+    ensures bytes { WritesBytes result (W.taken writer.old) (W.taken writer.new) (reply_line (base64_of hash.now)) }
     ensures failed { MarksFailure result (W.has_failed writer.old) (W.has_failed writer.new) }
 {
     let mut line = [b'\n'; ROOT_LINE];
@@ -89,7 +89,7 @@ pub fn write_root<W: Sink>(hash: &RootHash, writer: &mut W) -> Result<(), Failed
 
 /// Writes a line for each item, and the line `end`.
 pub fn write_list<T: ReplyLine, W: Sink>(items: &[T], writer: &mut W) -> Result<(), Failed>
-    ensures bytes { Writes result (W.taken writer.old) (W.taken writer.new) (flat_map T.line_text items.now ++ end_line) }
+    ensures bytes { WritesBytes result (W.taken writer.old) (W.taken writer.new) (flat_map T.line_text items.now ++ end_line) }
     ensures failed { MarksFailure result (W.has_failed writer.old) (W.has_failed writer.new) }
 {
     let mut pending = Pending::new();
@@ -99,7 +99,7 @@ pub fn write_list<T: ReplyLine, W: Sink>(items: &[T], writer: &mut W) -> Result<
 
 /// Writes the ranges of a pull, the line `end`, and how many rows it joined.
 pub fn write_pull<W: Sink>(pulled: &Pulled<String>, writer: &mut W) -> Result<(), Failed>
-    ensures bytes { Writes result (W.taken writer.old) (W.taken writer.new) (pull_text (answer_of pulled.now)) }
+    ensures bytes { WritesBytes result (W.taken writer.old) (W.taken writer.new) (pull_reply (answer_of pulled.now)) }
     ensures failed { MarksFailure result (W.has_failed writer.old) (W.has_failed writer.new) }
 {
     let mut pending = Pending::new();
@@ -140,7 +140,7 @@ fn write_fields<W: Sink>(
     pending: &mut Pending,
     writer: &mut W,
 ) -> Result<(), Failed>
-    ensures bytes { Passes result (W.taken writer.old) (W.taken writer.new) pending.old (text_line (first.now ++ codes " " ++ second.now)) pending.new }
+    ensures bytes { Passes result (W.taken writer.old) (W.taken writer.new) pending.old (reply_line (first.now ++ codes " " ++ second.now)) pending.new }
     ensures failed { MarksFailure result (W.has_failed writer.old) (W.has_failed writer.new) }
 {
     pending.write(first, writer)?;

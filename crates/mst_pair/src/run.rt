@@ -55,7 +55,7 @@ const CHUNK: usize = 8192;
 ///
 /// A run over text in memory, whose replies stand in `output` then:
 ///
-/// ```rust crates/program_tests/src/runs.rt
+/// ```rust crates/mst_pair_tests/src/runs.rt
 /// let mut output = Vec::new(rt.alloc());
 /// let mut reader = FromRead::new(input.as_bytes());
 /// let mut writer = ToWrite::new(&mut output);

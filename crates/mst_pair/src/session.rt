@@ -1,7 +1,7 @@
 //! An engine and the line that it is being given.
 ghost use Rattle.std.specs.Prelude.{◌≡◌, [], OnOk, true};
 ghost use Rattle.mst_pair.specs.Devices.{MarksFailure};
-ghost use Rattle.mst_pair.specs.Session.{Reached, Feeds, Ends};
+ghost use Rattle.mst_pair.specs.Session.{Reached, Feeds, EndsSession};
 
 use crate::engine::Engine;
 use crate::line::Line;
@@ -44,7 +44,7 @@ impl Session {
 
     /// Answers the last line, if it has a byte, and flushes the writer.
     pub fn finish<W: Sink>(&mut self, writer: &mut W) -> Result<(), Failed>
-        ensures bytes { Ends self.old result (W.taken writer.old) (W.taken writer.new) }
+        ensures bytes { EndsSession self.old result (W.taken writer.old) (W.taken writer.new) }
         ensures flushed { OnOk result (W.is_flushed writer.new ≡ true) }
         ensures failed { MarksFailure result (W.has_failed writer.old) (W.has_failed writer.new) }
     {

@@ -1,7 +1,7 @@
 //! What a run writes to.
 ghost use Rattle.std.specs.Prelude.{◌≡◌, ℕ, ◌<◌, ◌≤◌, List, Option, Bool, true, false, OnOk, OnErr, IfOk, length, take};
 ghost use Rattle.std.specs.Io.KnownBytes.{Appends, Keeps};
-ghost use Rattle.mst_pair.specs.Devices.{KeepsOrHides, Writes, MarksFailure, MarksFailed, WriterTakes, FailedOrRefuses, writer_inside};
+ghost use Rattle.mst_pair.specs.Devices.{KeepsOrHides, WritesBytes, MarksFailure, MarksFailed, WriterTakes, FailedOrRefuses, writer_inside};
 
 use crate::source::Failed;
 use crate::writer::Writer;
@@ -54,7 +54,7 @@ pub trait Sink {
 /// It tells the bytes that the writer tells. Where the writer takes none of some bytes, that is a failure. Once a call has failed, so
 /// does each later one.
 ///
-/// ```rust crates/program_tests/src/roots.rt
+/// ```rust crates/mst_pair_tests/src/roots.rt
 /// let mut writer = ToWrite::new(&mut output);
 /// match run(alloc, &mut reader, &mut writer) {
 /// ```
@@ -160,7 +160,7 @@ impl<W: Writer> Sink for ToWrite<W> {
 
 /// Writes all the bytes, or at an error a beginning of them.
 pub(crate) fn write_all<W: Sink>(writer: &mut W, bytes: &[u8]) -> Result<(), Failed>
-    ensures bytes { Writes result (W.taken writer.old) (W.taken writer.new) bytes.now }
+    ensures bytes { WritesBytes result (W.taken writer.old) (W.taken writer.new) bytes.now }
     ensures failed { MarksFailure result (W.has_failed writer.old) (W.has_failed writer.new) }
 {
     let mut rest = bytes;

@@ -47,7 +47,7 @@ pub trait Source {
 /// It tells the bytes that the reader tells. Each call of `read` takes one of the reads that it was given, 18446744073709551615
 /// unless stated otherwise, and after these it fails; so it does at each read once a read has failed.
 ///
-/// ```rust crates/program_tests/src/roots.rt
+/// ```rust crates/mst_pair_tests/src/roots.rt
 /// let mut reader = FromRead::new(input.as_bytes());
 /// let mut writer = ToWrite::new(&mut output);
 /// match run(alloc, &mut reader, &mut writer) {

@@ -3,7 +3,7 @@ use Rattle.std.proofs.Common.{ℕ, List, ap, subst, take, ◌∙◌}
 use Rattle.std.specs.Global.{Vec}
 use Rattle.key_order.specs.Join.{IsJoin}
 use Rattle.merkle_wire.specs.declared.catching_up.Next.TheVariants.{Came}
-use Rattle.mst_replica_c.specs.Calls.{HasTaken, IsJoinOf, IsOver, IsTaken, JoinsRows, SameRows, SameTalk}
+use Rattle.mst_replica_c.specs.Calls.{HasTaken, JoinsOrCuts, IsOver, IsTaken, JoinsRows, SameRows, SameTalk}
 use Rattle.c_rows.specs.Values.{byte_laws}
 use Rattle.mst_replica_c.specs.declared.byte_replica.ByteReplica.{ByteReplica}
 use Rattle.mst_replica_c.specs.declared.byte_replica.Taken.{Taken}
@@ -22,7 +22,7 @@ module _ (old mid new : ByteReplica) (same : SameRows old mid) where
 
   -- what is done with a reply is what is done with the rows that came
   pub came_taken : (reply : List ℕ) (rows : Vec (Vec ℕ × ByteValue)) (taken : Taken) → HasTaken reply (Came rows) old → IsOver mid
-      → IsJoinOf rows.items taken mid new → IsTaken reply taken old new
+      → JoinsOrCuts rows.items taken mid new → IsTaken reply taken old new
   came_taken reply rows Asks came over join = absurd join
   came_taken reply rows (Joined count) came over join = record {
     rows = rows;

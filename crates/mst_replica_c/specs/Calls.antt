@@ -9,20 +9,21 @@ use Rattle.merkle_tree_theory.specs.Stream.{page_digest}
 use Rattle.merkle_tree_theory.specs.declared.page_format.PageFormat.{PageFormat}
 use Rattle.merkle_wire.specs.Found.{nothing}
 use Rattle.merkle_wire.specs.Next.{IsNext, IsStopped}
-use Rattle.merkle_wire.specs.Questions.{AsksForRoot, AsksNothing, question_bytes}
+use Rattle.merkle_wire.specs.Questions.{AsksForRoot, question_bytes}
 use Rattle.merkle_wire.specs.Replies.{AsksWithOthers, IsAnsweredBy}
 use Rattle.merkle_wire.specs.Underway.{Underway}
 use Rattle.merkle_wire.specs.declared.catching_up.Next.{Next}
 use Rattle.merkle_wire.specs.declared.catching_up.Next.TheVariants.{Ask, Came}
 use Rattle.merkle_wire.specs.declared.session_error.SessionError.{SessionError}
-use Rattle.merkle_wire.specs.declared.session_error.SessionError.TheVariants.{Memory, Refused}
-use Rattle.c_rows.specs.Values.{by_bytes, byte_laws, key_bytes, key_encoding, value_encoding}
-use Rattle.c_rows.specs.Wire.{rows_bytes}
+use Rattle.c_rows.specs.Values.{by_bytes, byte_laws, key_encoding, value_encoding}
+use Rattle.c_values.specs.Keys.{key_items}
+use Rattle.c_values.specs.Lists.{row_list}
 use Rattle.c_rows.specs.declared.value.ByteValue.{ByteValue}
-use Rattle.mst_replica_c.specs.Values.{rows_of, value_at}
+use Rattle.mst_replica_c.specs.Values.{byte_rows, value_at}
 use Rattle.mst_replica_c.specs.declared.byte_replica.ByteReplica.{ByteReplica}
 use Rattle.mst_replica_c.specs.declared.byte_replica.Taken.{Taken}
 use Rattle.mst_replica_c.specs.declared.byte_replica.Taken.TheVariants.{Asks, Joined, Cut, Failed}
+use Rattle.c_rows.specs.Ends.{IsEarly, early_status}
 
 -- no row, these settings, no catch-up, and no message
 abbrev pub IsFresh : List ℕ → ℕ → PageFormat → ByteReplica → Type 0
@@ -51,7 +52,7 @@ HasValue key P held = (value : List ℕ) × (value_at held.replica key ≡ Some 
 
 -- of the bytes of the rows this holds
 abbrev pub HasRows : (List ℕ → Type 0) → ByteReplica → Type 0
-HasRows P held = P (rows_bytes (rows_of held.replica))
+HasRows P held = P (row_list (byte_rows held.replica))
 
 -- the rows are the join of the old ones with those that come: at each key the greater value; and the settings stay
 pub record JoinsRows (coming : List (Vec ℕ × ByteValue)) (old new : ByteReplica) : Type 0 where
@@ -67,15 +68,11 @@ pub record IsPut (key value : List ℕ) (old new : ByteReplica) : Type 0 where
 
 -- the digests that pages lacked are filled in, and nothing else changes
 abbrev pub OnlyHashes : ByteReplica → ByteReplica → Type 0
-OnlyHashes old new = (new.replica.rows ≡ old.replica.rows) × (new.replica.tree ≡ hashed_tree key_bytes old.replica.tree) × SameTalk old new
+OnlyHashes old new = (new.replica.rows ≡ old.replica.rows) × (new.replica.tree ≡ hashed_tree key_items old.replica.tree) × SameTalk old new
 
 -- the question asks, and the message is the reply to it
 abbrev pub IsAnswered : List ℕ → ByteReplica → ByteReplica → Type 0
 IsAnswered question old new = IsAnsweredBy byte_laws 16 key_encoding value_encoding old.replica new.replica question new.message
-
--- the bytes are no question
-abbrev pub IsNoQuestion : List ℕ → Type 0
-IsNoQuestion = AsksNothing key_encoding (λ _. ⊤)
 
 -- the question is for the root, with settings that are not those of the replica
 abbrev pub IsOfOthers : List ℕ → ByteReplica → Type 0
@@ -133,18 +130,8 @@ pub record IsCutShort (reply : List ℕ) (joined : ℕ) (old new : ByteReplica) 
   pub over : IsOver new
 
 -- the catch-up is over, out of memory: no row is joined, or the first ones that came, this many
-abbrev pub IsCut : List ℕ → ℕ → ByteReplica → ByteReplica → Type 0
-IsCut reply joined old new = ((joined ≡ 0) × IsDropped old new) ⊎ IsCutShort reply joined old new
-
--- the status of a catch-up that ended early
-abbrev pub IsEarly : ℕ → Type 0
-IsEarly status = (status ≡ 1) ⊎ (status ≡ 2) ⊎ (status ≡ 7)
-
--- the status that an error has
-abbrev pub early_status : SessionError → ℕ
-early_status Memory = 1
-early_status Refused = 7
-early_status _ = 2
+abbrev pub IsCutOff : List ℕ → ℕ → ByteReplica → ByteReplica → Type 0
+IsCutOff reply joined old new = ((joined ≡ 0) × IsDropped old new) ⊎ IsCutShort reply joined old new
 
 -- the catch-up could not go on with the reply, for an error of this status: where memory was not the reason, the reply is none to what was asked, or
 -- outlines were to be asked for after 256 rounds of them, or two of the rows that were found have equal keys
@@ -167,13 +154,13 @@ abbrev pub TakesReply : List ℕ → ByteReplica → ByteReplica → Option Take
 TakesReply reply old new result = MatchOption result (IsIdle old × (new ≡ old)) (λ taken. IsTaken reply taken old new)
 
 -- what is done with rows that came
-abbrev pub IsJoinOf : List (Vec ℕ × ByteValue) → Taken → ByteReplica → ByteReplica → Type 0
-IsJoinOf rows Asks old new = ⊥
-IsJoinOf rows (Joined count) old new = (count ≡ length rows) × JoinsRows rows old new × SameTalk old new
-IsJoinOf rows (Cut count) old new =
+abbrev pub JoinsOrCuts : List (Vec ℕ × ByteValue) → Taken → ByteReplica → ByteReplica → Type 0
+JoinsOrCuts rows Asks old new = ⊥
+JoinsOrCuts rows (Joined count) old new = (count ≡ length rows) × JoinsRows rows old new × SameTalk old new
+JoinsOrCuts rows (Cut count) old new =
     (count < length rows) × JoinsRows (take count rows) old new × (count ≡ 0 → new.replica.rows ≡ old.replica.rows) × SameTalk old new
-IsJoinOf rows (Failed status) old new = ⊥
+JoinsOrCuts rows (Failed status) old new = ⊥
 
 -- the root page has this digest
 abbrev pub HasRootDigest : List ℕ → ByteReplica → Type 0
-HasRootDigest digest held = digest ≡ page_digest held.replica.tree.format key_bytes held.replica.tree.root
+HasRootDigest digest held = digest ≡ page_digest held.replica.tree.format key_items held.replica.tree.root

@@ -2,7 +2,8 @@
 use Rattle.std.specs.Prelude.{◌≡◌, ℕ, List, Option, None, Some, MatchOption}
 use Rattle.std.specs.Borrow.{Bor}
 use Rattle.std.specs.Global.{Vec}
-use Rattle.c_rows.specs.Values.{by_bytes_all, bytes_cmp}
+use Rattle.c_rows.specs.Values.{by_bytes_all}
+use Rattle.c_values.specs.Keys.{bytes_cmp}
 use Rattle.c_rows.specs.declared.value.ByteValue.{ByteValue}
 use Rattle.key_order.specs.Map.{get}
 use Rattle.merkle_replica.specs.Contents.{Contents}
@@ -12,12 +13,12 @@ abbrev pub ByteContents : Type 0
 ByteContents = Contents (Vec ℕ) ByteValue (List ℕ)
 
 -- the rows of a replica by their bytes, in the order of their keys
-abbrev pub rows_of : ByteContents → List (List ℕ × List ℕ)
-rows_of contents = by_bytes_all contents.rows
+abbrev pub byte_rows : ByteContents → List (List ℕ × List ℕ)
+byte_rows contents = by_bytes_all contents.rows
 
 -- the bytes of the value at a key, if any
 abbrev pub value_at : ByteContents → List ℕ → Option (List ℕ)
-value_at contents key = get bytes_cmp (rows_of contents) key
+value_at contents key = get bytes_cmp (byte_rows contents) key
 
 -- the value at a key was found, where the key is there
 abbrev pub IsFoundAt : ByteContents → List ℕ → Option (Bor (List ℕ)) → Type 0

@@ -1,23 +1,24 @@
 //! What a handle holds: a replica of byte strings, the catch-up that it is in, and a message.
 ghost use Rattle.std.specs.Prelude.{◌≡◌, ◌≢◌, ◌⊎◌, None, Some, OnOk, OnErr, IfOk, length};
 ghost use Rattle.std.specs.Int.NonZero.{non_zero_u8_get};
-ghost use Rattle.c_rows.specs.Values.{key_bytes, key_cmp};
-ghost use Rattle.c_rows.specs.Wire.{rows_bytes};
+ghost use Rattle.c_values.specs.Keys.{key_items, key_cmp};
+ghost use Rattle.c_values.specs.Lists.{row_list};
 ghost use Rattle.key_order.specs.Map.{IsMap};
 ghost use Rattle.merkle_tree_theory.specs.Stream.{page_digest};
 ghost use Rattle.merkle_wire.specs.Messages.{front};
 ghost use Rattle.merkle_wire.specs.declared.message.Kind.TheVariants.{Refusal};
-ghost use Rattle.mst_replica_c.specs.Calls.{HasBegun, IsAnswered, IsFresh, IsNoQuestion, IsOfOthers, IsJoinOf, IsPut, OnlyHashes};
-ghost use Rattle.mst_replica_c.specs.Calls.{SameRows, TakesReply, early_status};
-ghost use Rattle.mst_replica_c.specs.Values.{IsFoundAt, rows_of};
+ghost use Rattle.mst_replica_c.specs.Calls.{HasBegun, IsAnswered, IsFresh, IsOfOthers, JoinsOrCuts, IsPut, OnlyHashes};
+ghost use Rattle.c_rows.specs.Ends.{IsNoQuestion};
+ghost use Rattle.mst_replica_c.specs.Calls.{SameRows, TakesReply};
+ghost use Rattle.mst_replica_c.specs.Values.{IsFoundAt, byte_rows};
 
-use c_rows::status::{OTHER_SETTINGS, REFUSED};
+use c_rows::status::{OTHER_SETTINGS, status_of};
 use c_rows::{ByteValue, encode};
 use c_values::status::{DONE, MALFORMED, MEMORY};
 use merkle_digest::SipHasher;
 use merkle_replica::{JoinRefused, Replica};
 use merkle_search_tree::builder::{Builder, PageFormat};
-use merkle_wire::{AnswerError, CatchingUp, Next, SessionError, answer, refusal};
+use merkle_wire::{AnswerError, CatchingUp, Next, answer, refusal};
 use std::alloc::{AllocError, Global};
 use std::num::NonZeroU8;
 
@@ -104,14 +105,14 @@ impl ByteReplica {
 
     /// The rows as a list.
     pub fn rows(&self, alloc: Global) -> Result<Vec<u8>, AllocError>
-        ensures { IfOk result (λ out. out.items ≡ rows_bytes (rows_of self.now.replica)) }
+        ensures { IfOk result (λ out. out.items ≡ row_list (byte_rows self.now.replica)) }
     {
         encode(alloc, self.replica.rows())
     }
 
     /// The digest of the root page. It fills in the digests that pages lack.
     pub fn root_hash(&mut self) -> [u8; 16]
-        ensures digest { result ≡ page_digest self.old.replica.tree.format key_bytes self.old.replica.tree.root }
+        ensures digest { result ≡ page_digest self.old.replica.tree.format key_items self.old.replica.tree.root }
         ensures kept { OnlyHashes self.old self.new }
     {
         self.replica.hash();
@@ -196,7 +197,7 @@ impl ByteReplica {
     /// Joins the rows that came to a catch-up that is over.
     fn join(&mut self, rows: Vec<(Vec<u8>, ByteValue)>) -> Taken
         requires { IsMap key_cmp rows.items }
-        ensures { IsJoinOf rows.items result self.old self.new }
+        ensures { JoinsOrCuts rows.items result self.old self.new }
     {
         let count = rows.len();
         match self.replica.join_rows(rows) {
@@ -205,17 +206,5 @@ impl ByteReplica {
             Err(JoinRefused::NotAscending(_)) => unreachable!(),
         }
         Taken::Joined(count)
-    }
-}
-
-/// The status of a catch-up that ended early.
-fn status_of(error: &SessionError) -> u32
-    ensures early { (result ≡ 1) ⊎ (result ≡ 2) ⊎ (result ≡ 7) }
-    ensures status { result ≡ early_status error.now }
-{
-    match error {
-        SessionError::Memory => MEMORY,
-        SessionError::Refused => REFUSED,
-        _ => MALFORMED,
     }
 }

@@ -2,8 +2,10 @@
 ghost use Rattle.std.specs.Prelude.{◌≡◌, ◌≢◌, ◌↔◌, ◌⊎◌, None, length};
 ghost use Rattle.merkle_wire.specs.Messages.{front};
 ghost use Rattle.merkle_wire.specs.declared.message.Kind.TheVariants.{Refusal};
-ghost use Rattle.mst_replica_c.specs.Calls.{AsksOn, HasBegun, JoinsWhatCame, IsAnswered, IsCut, IsDropped, IsIdle, IsNoQuestion, IsOfOthers, IsStoppedBy, SameMessage, SameRows, SameSession};
-ghost use Rattle.mst_replica_c.specs.Handles.{Has, Changes, IsOutput, IsShort};
+ghost use Rattle.mst_replica_c.specs.Calls.{AsksOn, HasBegun, JoinsWhatCame, IsAnswered, IsCutOff, IsDropped, IsIdle, IsOfOthers, IsStoppedBy, SameMessage, SameRows, SameSession};
+ghost use Rattle.c_rows.specs.Ends.{IsNoQuestion};
+ghost use Rattle.c_values.specs.Output.{IsOutput, IsShort};
+ghost use Rattle.c_values.specs.Handles.{Has, Changes};
 
 use crate::byte_replica::Taken;
 use crate::handle::{MstReplica, put_back, take_out};
@@ -124,7 +126,7 @@ pub extern "C" fn mst_proved_replica_take(
     ensures none_yet { result ≡ 0 → len.new ≢ 0 → joined.new ≡ 0 }
     ensures joined { result ≡ 0 → len.new ≡ 0 → Changes handle.old.held handle.new.held (JoinsWhatCame reply.now joined.new) }
     ensures len { result ≡ 0 → Has handle.new.held (λ h. len.new ≡ length h.message.items) }
-    ensures cut { result ≡ 1 → Changes handle.old.held handle.new.held (IsCut reply.now joined.new) }
+    ensures cut { result ≡ 1 → Changes handle.old.held handle.new.held (IsCutOff reply.now joined.new) }
     ensures dropped { (result ≡ 2) ⊎ (result ≡ 7) → Changes handle.old.held handle.new.held IsDropped }
     ensures stopped { (result ≡ 2) ⊎ (result ≡ 7) → Has handle.old.held (IsStoppedBy reply.now result) }
     ensures idle { result ≡ 5 → Has handle.old.held IsIdle }

@@ -2,7 +2,8 @@
 ghost use Rattle.std.specs.Prelude.{◌≡◌, ◌≢◌, ◌↔◌, ◌⊎◌, None, length};
 ghost use Rattle.merkle_tree_theory.specs.declared.page_format.PageFormat.TheVariants.{V1, V2};
 ghost use Rattle.mst_replica_c.specs.Calls.{HasRootDigest, HasRows, HasValue, IsFresh, IsPut, OnlyHashes};
-ghost use Rattle.mst_replica_c.specs.Handles.{Has, Changes, IsOutput, IsShort};
+ghost use Rattle.c_values.specs.Output.{IsOutput, IsShort};
+ghost use Rattle.c_values.specs.Handles.{Has, Changes};
 ghost use Rattle.mst_replica_c.specs.Values.{value_at};
 
 use crate::byte_replica::ByteReplica;

@@ -1,7 +1,7 @@
 -- A reply of rows that are handed in is one of all rows that are kept.
 use Rattle.std.proofs.Common.{◌≡◌, List, [], ◌∷◌, ◌++◌, map, sym, subst, ◌∙◌}
 use Rattle.std.specs.List.{AllByRecursion}
-use Rattle.c_rows.specs.Values.{key_cmp}
+use Rattle.c_values.specs.Keys.{key_cmp}
 use Rattle.key_order.specs.Map.{get}
 use Rattle.merkle_tree_theory.specs.Gap.{pairs_within}
 use Rattle.merkle_wire.specs.Gaps.{owned_gap}

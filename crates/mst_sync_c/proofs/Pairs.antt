@@ -7,8 +7,7 @@ use Rattle.std.specs.declared.cmp.Ordering.{Ordering}
 use Rattle.std.specs.declared.cmp.Ordering.TheVariants.{Less, Greater}
 use Rattle.key_order.specs.Map.{get, set, del, has_key, entry, IsPresent}
 use Rattle.key_order.proofs.Dels.{entry-there, entry-absent}
-use Rattle.c_rows.specs.Values.{bytes_cmp, key_cmp}
-use Rattle.mst_sync_c.specs.Pairs.{by_key}
+use Rattle.c_values.specs.Keys.{bytes_cmp, key_cmp, by_key}
 
 abbrev pub Pair : Type 0
 Pair = Vec ℕ × List ℕ

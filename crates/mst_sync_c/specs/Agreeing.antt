@@ -2,7 +2,8 @@
 use Rattle.std.specs.Prelude.{◌≡◌, ℕ, List}
 use Rattle.std.specs.Global.{Vec}
 use Rattle.std.specs.List.{AllByRecursion}
-use Rattle.c_rows.specs.Values.{byte_laws, key_cmp, key_encoding, value_encoding}
+use Rattle.c_rows.specs.Values.{byte_laws, key_encoding, value_encoding}
+use Rattle.c_values.specs.Keys.{key_cmp}
 use Rattle.c_rows.specs.declared.value.ByteValue.{ByteValue}
 use Rattle.key_order.specs.Map.{get}
 use Rattle.merkle_tree_theory.specs.Gap.{pairs_within}
@@ -10,7 +11,7 @@ use Rattle.merkle_wire.specs.Gaps.{owned_gap}
 use Rattle.merkle_wire.specs.Replies.{IsReplyBy}
 use Rattle.merkle_wire.specs.declared.question.Question.{Question}
 use Rattle.merkle_wire.specs.declared.question.Question.TheVariants.{Root, Outlines, Nodes, RowsAt, RowsIn}
-use Rattle.mst_sync_c.specs.Pairs.{SyncState}
+use Rattle.mst_sync_c.specs.SideTree.{SyncState}
 
 -- of what the question asks for, which is rows, those that are handed in are all that are kept
 abbrev pub AgreeOn : Question (Vec ℕ) → List (Vec ℕ × ByteValue) → List (Vec ℕ × ByteValue) → Type 0

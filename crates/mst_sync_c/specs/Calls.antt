@@ -1,8 +1,9 @@
 -- What the calls do to a tree, to the catch-up that it is in, and to the message and the list that are kept.
-use Rattle.std.specs.Prelude.{◌≡◌, ◌≢◌, ◌⊎◌, ℕ, Bool, List, [], length, replicate, Option, None, Some, MatchOption, ⊤}
+use Rattle.std.specs.Prelude.{◌≡◌, ◌≢◌, ℕ, Bool, List, [], length, replicate, Option, None, Some, MatchOption, ⊤}
 use Rattle.std.specs.Global.{Vec}
-use Rattle.c_rows.specs.Values.{by_bytes_all, byte_laws, bytes_cmp, key_bytes, key_cmp, key_encoding, value_encoding}
-use Rattle.c_rows.specs.Wire.{rows_bytes}
+use Rattle.c_rows.specs.Values.{by_bytes_all, byte_laws, key_encoding, value_encoding}
+use Rattle.c_values.specs.Keys.{bytes_cmp, key_items, key_cmp, pairs_of}
+use Rattle.c_values.specs.Lists.{row_list}
 use Rattle.c_rows.specs.declared.value.ByteValue.{ByteValue}
 use Rattle.key_order.specs.Map.{IsMap, del, get, has_key, set}
 use Rattle.merkle_digest.specs.SipHash.{siphash128}
@@ -14,7 +15,7 @@ use Rattle.merkle_tree_theory.specs.declared.page_format.PageFormat.{PageFormat}
 use Rattle.merkle_wire.specs.Found.{nothing}
 use Rattle.merkle_wire.specs.ItsRows.{ForItsRows}
 use Rattle.merkle_wire.specs.Next.{IsNext, IsStopped}
-use Rattle.merkle_wire.specs.Questions.{AsksForRoot, AsksNothing, question_bytes}
+use Rattle.merkle_wire.specs.Questions.{AsksForRoot, question_bytes}
 use Rattle.merkle_wire.specs.Replies.{AsksWithOthers, IsAnsweredOf, IsAnsweredWithin}
 use Rattle.merkle_wire.specs.Underway.{Underway}
 use Rattle.merkle_wire.specs.declared.catching_up.Next.{Next}
@@ -22,12 +23,11 @@ use Rattle.merkle_wire.specs.declared.catching_up.Next.TheVariants.{Ask, Came}
 use Rattle.merkle_wire.specs.declared.question.Question.{Question}
 use Rattle.merkle_wire.specs.declared.question.Question.TheVariants.{Root, Outlines, Nodes, RowsAt, RowsIn}
 use Rattle.merkle_wire.specs.declared.session_error.SessionError.{SessionError}
-use Rattle.merkle_wire.specs.declared.session_error.SessionError.TheVariants.{Memory, Refused}
 use Rattle.mst_sync_c.specs.Needs.{AreNeeds}
-use Rattle.mst_sync_c.specs.Pairs.{pairs_of}
 use Rattle.mst_sync_c.specs.declared.byte_sync.ByteSync.{ByteSync}
 use Rattle.mst_sync_c.specs.declared.byte_sync.Taken.{Taken}
 use Rattle.mst_sync_c.specs.declared.byte_sync.Taken.TheVariants.{Asks, Kept, Lost, Failed}
+use Rattle.c_rows.specs.Ends.{IsEarly, early_status}
 
 -- the empty tree with these settings, no catch-up, no message and no list
 pub record IsFresh (key : List ℕ) (base : ℕ) (format : PageFormat) (new : ByteSync) : Type 0 where
@@ -62,13 +62,13 @@ abbrev pub OnlyMessage : ByteSync → ByteSync → Type 0
 OnlyMessage old new = (new.tree ≡ old.tree) × SameSession old new × SameList old new
 
 -- the map has the key with the digest of the value, and the rest stays
-pub record IsSet (key value : List ℕ) (old new : ByteSync) : Type 0 where
+pub record IsPairSet (key value : List ℕ) (old new : ByteSync) : Type 0 where
   pub pairs : pairs_of new.tree ≡ set bytes_cmp (pairs_of old.tree) key (siphash128 old.tree.hasher value)
   pub settings : SameSettings old.tree new.tree
   pub talk : SameTalk old new
 
 -- the map no longer has the key, whether it had it was answered, and the rest stays
-pub record IsDel (key : List ℕ) (found : Bool) (old new : ByteSync) : Type 0 where
+pub record IsPairDel (key : List ℕ) (found : Bool) (old new : ByteSync) : Type 0 where
   pub pairs : pairs_of new.tree ≡ del bytes_cmp (pairs_of old.tree) key
   pub answer : found ≡ has_key bytes_cmp (pairs_of old.tree) key
   pub settings : SameSettings old.tree new.tree
@@ -84,11 +84,11 @@ HasKeys count held = count ≡ row_count (map_of held.tree)
 
 -- the root page has this digest
 abbrev pub HasRootDigest : List ℕ → ByteSync → Type 0
-HasRootDigest digest held = digest ≡ page_digest held.tree.format key_bytes held.tree.root
+HasRootDigest digest held = digest ≡ page_digest held.tree.format key_items held.tree.root
 
 -- the digests that pages lacked are filled in, and nothing else changes
 abbrev pub OnlyHashes : ByteSync → ByteSync → Type 0
-OnlyHashes old new = (new.tree ≡ hashed_tree key_bytes old.tree) × SameTalk old new
+OnlyHashes old new = (new.tree ≡ hashed_tree key_items old.tree) × SameTalk old new
 
 -- a reply that a side with these rows and this tree makes to a question
 abbrev pub IsReplyOf : List (Vec ℕ × ByteValue) → List ℕ → ByteSync → Type 0
@@ -120,17 +120,13 @@ pub record IsNeeded (question : List ℕ) (new : ByteSync) : Type 0 where
 -- rows were handed in that ascend, and the message is the reply to the question of a side with this tree and these rows
 pub record IsAnsweredWith (question list : List ℕ) (new : ByteSync) : Type 0 where
   pub rows : List (Vec ℕ × ByteValue)
-  pub spelled : list ≡ rows_bytes (by_bytes_all rows)
+  pub spelled : list ≡ row_list (by_bytes_all rows)
   pub ascending : IsMap key_cmp rows
   pub replies : IsReplyOf rows question new
 
 -- the reply ends with the entry that brings it to this many bytes, or has all entries
 abbrev pub EndsBy : ℕ → List ℕ → ByteSync → Type 0
 EndsBy most question new = IsAnsweredWithin key_encoding value_encoding most question new.message
-
--- the bytes are no question
-abbrev pub IsNoQuestion : List ℕ → Type 0
-IsNoQuestion = AsksNothing key_encoding (λ _. ⊤)
 
 -- the question is for the root, with settings that are not those of the tree
 abbrev pub IsOfOthers : List ℕ → ByteSync → Type 0
@@ -173,7 +169,7 @@ IsOver new = (new.session ≡ None) × (new.message.items ≡ [])
 pub record HasBrought (reply : List ℕ) (old new : ByteSync) : Type 0 where
   pub rows : Vec (Vec ℕ × ByteValue)
   pub taken : HasTaken reply (Came rows) old
-  pub list : new.list.items ≡ rows_bytes (by_bytes_all rows.items)
+  pub list : new.list.items ≡ row_list (by_bytes_all rows.items)
   pub same : SameTree old new
   pub over : IsOver new
 
@@ -183,16 +179,6 @@ pub record IsDropped (old new : ByteSync) : Type 0 where
   pub same : SameTree old new
   pub list : new.list ≡ old.list
   pub over : IsOver new
-
--- the status of a catch-up that ended early
-abbrev pub IsEarly : ℕ → Type 0
-IsEarly status = (status ≡ 1) ⊎ (status ≡ 2) ⊎ (status ≡ 7)
-
--- the status that an error has
-abbrev pub early_status : SessionError → ℕ
-early_status Memory = 1
-early_status Refused = 7
-early_status _ = 2
 
 -- the catch-up could not go on with the reply, for an error of this status: whatever rows the tree has the digests of, the reply is none to what was
 -- asked, or outlines were to be asked for after 256 rounds of them, or two of the rows that were found have equal keys
@@ -217,6 +203,6 @@ TakesReply reply old new result = MatchOption result (IsIdle old × (new ≡ old
 -- what is done with rows that came
 abbrev pub IsKeptOf : List (Vec ℕ × ByteValue) → Taken → ByteSync → ByteSync → Type 0
 IsKeptOf rows Asks old new = ⊥
-IsKeptOf rows Kept old new = (new.list.items ≡ rows_bytes (by_bytes_all rows)) × (new.tree ≡ old.tree) × SameSession old new × SameMessage old new
+IsKeptOf rows Kept old new = (new.list.items ≡ row_list (by_bytes_all rows)) × (new.tree ≡ old.tree) × SameSession old new × SameMessage old new
 IsKeptOf rows Lost old new = new ≡ old
 IsKeptOf rows (Failed status) old new = ⊥

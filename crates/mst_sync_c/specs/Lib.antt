@@ -1,5 +1,4 @@
 pub mod Agreeing
 pub mod Calls
-pub mod Handles
 pub mod Needs
-pub mod Pairs
+pub mod SideTree

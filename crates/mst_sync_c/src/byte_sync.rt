@@ -1,24 +1,25 @@
 //! What a handle holds: a tree of the digests of byte strings, the catch-up that it is in, a message and a list.
 ghost use Rattle.std.specs.Prelude.{◌≡◌, ◌≢◌, ◌⊎◌, OnOk, OnErr, IfOk, false};
 ghost use Rattle.std.specs.Int.NonZero.{non_zero_u8_get};
-ghost use Rattle.c_rows.specs.Values.{bytes_cmp, key_bytes, key_encoding};
+ghost use Rattle.c_rows.specs.Values.{key_encoding};
+ghost use Rattle.c_values.specs.Keys.{bytes_cmp, key_items, pairs_of};
 ghost use Rattle.key_order.specs.Map.{get};
 ghost use Rattle.merkle_search_tree.specs.Loading.{row_count};
 ghost use Rattle.merkle_tree_theory.specs.State.{map_of};
 ghost use Rattle.merkle_tree_theory.specs.Stream.{page_digest};
-ghost use Rattle.merkle_wire.specs.Faults.{IsUnread, IsOfOthers as IsErrorOfOthers};
+ghost use Rattle.merkle_wire.specs.Faults.{IsUnread, AreOtherSettings as IsErrorOfOthers};
 ghost use Rattle.merkle_wire.specs.Messages.{front};
 ghost use Rattle.merkle_wire.specs.Questions.{question_bytes};
 ghost use Rattle.merkle_wire.specs.declared.message.Kind.TheVariants.{Refusal};
-ghost use Rattle.mst_sync_c.specs.Calls.{CountsFor, EndsBy, HasBegun, IsAnswered, IsAnsweredWith, IsDel, IsFresh, IsKeptOf, IsNeeded, IsNoQuestion, IsOfOthers, IsSet};
-ghost use Rattle.mst_sync_c.specs.Calls.{OnlyHashes, OnlyMessage, SameList, SameSession, SameTree, TakesReply, early_status};
-ghost use Rattle.mst_sync_c.specs.Pairs.{pairs_of};
+ghost use Rattle.mst_sync_c.specs.Calls.{CountsFor, EndsBy, HasBegun, IsAnswered, IsAnsweredWith, IsPairDel, IsFresh, IsKeptOf, IsNeeded, IsOfOthers, IsPairSet};
+ghost use Rattle.c_rows.specs.Ends.{IsNoQuestion};
+ghost use Rattle.mst_sync_c.specs.Calls.{OnlyHashes, OnlyMessage, SameList, SameSession, SameTree, TakesReply};
 
 use crate::handed::{Handed, HandedError};
 use crate::needs::needs_of;
 use crate::status::NEEDS_ROWS;
 use crate::unread::Unread;
-use c_rows::status::{OTHER_SETTINGS, REFUSED};
+use c_rows::status::{OTHER_SETTINGS, status_of};
 use c_rows::{ByteValue, ListError, encode};
 use c_values::status::{ARGUMENT, DONE, MALFORMED, MEMORY};
 use merkle_bytes::ReadError;
@@ -26,8 +27,8 @@ use merkle_digest::SipHasher;
 use merkle_search_tree::MerkleSearchTree;
 use merkle_search_tree::builder::{Builder, PageFormat};
 use merkle_wire::{
-    AnswerError, CatchingUp, KeptError, MOST_BYTES, Next, Question, SessionError, TakeError,
-    answer_by, decode_question, refusal,
+    AnswerError, CatchingUp, KeptError, MOST_BYTES, Next, Question, TakeError, answer_by,
+    decode_question, refusal,
 };
 use std::alloc::{AllocError, Global};
 use std::num::NonZeroU8;
@@ -94,7 +95,7 @@ impl ByteSync {
 
     /// Sets a key to the digest of a value. Refused, all is as before.
     pub fn set(&mut self, alloc: Global, key: &[u8], value: &[u8]) -> Result<(), AllocError>
-        ensures done { OnOk result (IsSet key.now value.now self.old self.new) }
+        ensures done { OnOk result (IsPairSet key.now value.now self.old self.new) }
         ensures unchanged { OnErr result (self.new ≡ self.old) }
     {
         let own_key = Vec::from_slice(alloc, key)?;
@@ -108,7 +109,7 @@ impl ByteSync {
 
     /// Takes a key out, and returns whether it was there. Where it wasn't, and refused, all is as before.
     pub fn remove(&mut self, alloc: Global, key: &[u8]) -> Result<bool, AllocError>
-        ensures done { IfOk result (λ found. IsDel key.now found self.old self.new) }
+        ensures done { IfOk result (λ found. IsPairDel key.now found self.old self.new) }
         ensures absent { IfOk result (λ found. found ≡ false → self.new ≡ self.old) }
         ensures unchanged { OnErr result (self.new ≡ self.old) }
     {
@@ -143,7 +144,7 @@ impl ByteSync {
 
     /// The digest of the root page. It fills in the digests that pages lack.
     pub fn root_hash(&mut self) -> [u8; 16]
-        ensures digest { result ≡ page_digest self.old.tree.format key_bytes self.old.tree.root }
+        ensures digest { result ≡ page_digest self.old.tree.format key_items self.old.tree.root }
         ensures kept { OnlyHashes self.old self.new }
     {
         let (digest, _) = self.tree.root_hash_counted();
@@ -366,17 +367,5 @@ fn handed_status(error: HandedError) -> u32
         HandedError::Memory => MEMORY,
         HandedError::Rows => NEEDS_ROWS,
         HandedError::Count => ARGUMENT,
-    }
-}
-
-/// The status of a catch-up that ended early.
-fn status_of(error: &SessionError) -> u32
-    ensures early { (result ≡ 1) ⊎ (result ≡ 2) ⊎ (result ≡ 7) }
-    ensures status { result ≡ early_status error.now }
-{
-    match error {
-        SessionError::Memory => MEMORY,
-        SessionError::Refused => REFUSED,
-        _ => MALFORMED,
     }
 }

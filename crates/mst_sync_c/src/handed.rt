@@ -1,7 +1,8 @@
 //! Rows that were handed in for a question.
 ghost use Rattle.std.specs.Prelude.{◌≡◌, IfOk};
-ghost use Rattle.c_rows.specs.Values.{by_bytes_all, key_cmp};
-ghost use Rattle.c_rows.specs.Wire.{rows_bytes};
+ghost use Rattle.c_rows.specs.Values.{by_bytes_all};
+ghost use Rattle.c_values.specs.Keys.{key_cmp};
+ghost use Rattle.c_values.specs.Lists.{row_list};
 ghost use Rattle.key_order.specs.Map.{IsMap};
 ghost use Rattle.mst_sync_c.specs.declared.handed.HandedError.TheVariants.{Memory};
 
@@ -43,7 +44,7 @@ impl From<AllocError> for HandedError {
 impl Handed {
     /// The rows that a list spells, which ascend: all that are needed, or the first of them.
     pub fn of_list(alloc: Global, list: &[u8], is_all: bool) -> Result<Handed, ListError>
-        ensures spelled { IfOk result (λ handed. list.now ≡ rows_bytes (by_bytes_all handed.rows.rows)) }
+        ensures spelled { IfOk result (λ handed. list.now ≡ row_list (by_bytes_all handed.rows.rows)) }
         ensures ascending { IfOk result (λ handed. IsMap key_cmp handed.rows.rows) }
     {
         let rows = decode_rows(alloc, list)?;

@@ -2,8 +2,8 @@
 //! first key of which a row is needed, and whose second says where the keys end: a byte 0, nowhere; a byte 1, below the bytes after it; a byte 2, with
 //! the first.
 ghost use Rattle.std.specs.Prelude.{◌≡◌, ◌++◌, map, OnOk, IfOk};
-ghost use Rattle.c_rows.specs.Wire.{row_bytes, rows_bytes};
-ghost use Rattle.mst_sync_c.specs.Needs.{NeedsWhat, end_of, first_key, gap_need, key_need};
+ghost use Rattle.c_values.specs.Lists.{sized_row, row_list};
+ghost use Rattle.mst_sync_c.specs.Needs.{NeedsWhat, end_mark, first_key, gap_need, key_need};
 
 use c_rows::{ROWS, put_number, put_text};
 use merkle_wire::{OwnedGap, Question, Wanted};
@@ -24,7 +24,7 @@ pub fn needs_of(alloc: Global, asked: &Question<Vec<u8>>) -> Result<Option<Vec<u
 
 /// The needs of keys.
 fn list_keys(alloc: Global, keys: &[Wanted<Vec<u8>>]) -> Result<Vec<u8>, AllocError>
-    ensures { IfOk result (λ out. out.items ≡ rows_bytes (map key_need keys.now)) }
+    ensures { IfOk result (λ out. out.items ≡ row_list (map key_need keys.now)) }
 {
     let mut out = Vec::from_slice(alloc, &ROWS)?;
     put_number(keys.len(), &mut out)?;
@@ -36,7 +36,7 @@ fn list_keys(alloc: Global, keys: &[Wanted<Vec<u8>>]) -> Result<Vec<u8>, AllocEr
 
 /// Writes the need of a key.
 fn put_key(wanted: &Wanted<Vec<u8>>, out: &mut Vec<u8>) -> Result<(), AllocError>
-    ensures { OnOk result (out.new.items ≡ out.old.items ++ row_bytes (key_need wanted.now)) }
+    ensures { OnOk result (out.new.items ≡ out.old.items ++ sized_row (key_need wanted.now)) }
 {
     put_text(wanted.key.as_slice(), out)?;
     put_text(&[2], out)
@@ -44,7 +44,7 @@ fn put_key(wanted: &Wanted<Vec<u8>>, out: &mut Vec<u8>) -> Result<(), AllocError
 
 /// The needs of gaps.
 fn list_gaps(alloc: Global, gaps: &[OwnedGap<Vec<u8>>]) -> Result<Vec<u8>, AllocError>
-    ensures { IfOk result (λ out. out.items ≡ rows_bytes (map gap_need gaps.now)) }
+    ensures { IfOk result (λ out. out.items ≡ row_list (map gap_need gaps.now)) }
 {
     let mut out = Vec::from_slice(alloc, &ROWS)?;
     put_number(gaps.len(), &mut out)?;
@@ -56,7 +56,7 @@ fn list_gaps(alloc: Global, gaps: &[OwnedGap<Vec<u8>>]) -> Result<Vec<u8>, Alloc
 
 /// Writes the need of a gap.
 fn put_gap(alloc: Global, gap: &OwnedGap<Vec<u8>>, out: &mut Vec<u8>) -> Result<(), AllocError>
-    ensures { OnOk result (out.new.items ≡ out.old.items ++ row_bytes (gap_need gap.now)) }
+    ensures { OnOk result (out.new.items ≡ out.old.items ++ sized_row (gap_need gap.now)) }
 {
     let first = first_key(alloc, &gap.after)?;
     let end = end_of(alloc, &gap.before)?;
@@ -80,7 +80,7 @@ fn first_key(alloc: Global, after: &Option<Vec<u8>>) -> Result<Vec<u8>, AllocErr
 
 /// Where the keys below a bound end.
 fn end_of(alloc: Global, before: &Option<Vec<u8>>) -> Result<Vec<u8>, AllocError>
-    ensures { IfOk result (λ end. end.items ≡ end_of before.now) }
+    ensures { IfOk result (λ end. end.items ≡ end_mark before.now) }
 {
     match before {
         None => Vec::from_slice(alloc, &[0]),

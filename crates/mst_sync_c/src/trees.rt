@@ -1,8 +1,8 @@
 //! Calls that make sides and let them go, set and take out keys, and read what a tree has.
 ghost use Rattle.std.specs.Prelude.{◌≡◌, ◌≢◌, ◌↔◌, ◌⊎◌, None, Some, true, false};
 ghost use Rattle.merkle_tree_theory.specs.declared.page_format.PageFormat.TheVariants.{V1, V2};
-ghost use Rattle.mst_sync_c.specs.Calls.{HasAt, HasKeys, HasRootDigest, IsDel, IsFresh, IsSet, OnlyHashes};
-ghost use Rattle.mst_sync_c.specs.Handles.{Has, Changes};
+ghost use Rattle.mst_sync_c.specs.Calls.{HasAt, HasKeys, HasRootDigest, IsPairDel, IsFresh, IsPairSet, OnlyHashes};
+ghost use Rattle.c_values.specs.Handles.{Has, Changes};
 
 use crate::byte_sync::ByteSync;
 use crate::handle::{MstSync, put_back, take_out};
@@ -68,7 +68,7 @@ pub extern "C" fn mst_proved_sync_set(
     key: &[u8],
     value: &[u8],
 ) -> u32
-    ensures done { result ≡ 0 → Changes handle.old.held handle.new.held (IsSet key.now value.now) }
+    ensures done { result ≡ 0 → Changes handle.old.held handle.new.held (IsPairSet key.now value.now) }
     ensures unchanged { result ≢ 0 → handle.new.held ≡ handle.old.held }
     ensures argument { (result ≡ 4) ↔ (handle.old.held ≡ None) }
     ensures status { (result ≡ 0) ⊎ (result ≡ 1) ⊎ (result ≡ 4) }
@@ -89,8 +89,8 @@ pub extern "C" fn mst_proved_sync_set(
 /// `DONE`; `ABSENT` where there is no such key; `MEMORY`; `ARGUMENT` where the handle has no side. But for `DONE`, all is as before.
 #[unsafe(no_mangle)]
 pub extern "C" fn mst_proved_sync_remove(alloc: Global, handle: &mut MstSync, key: &[u8]) -> u32
-    ensures done { result ≡ 0 → Changes handle.old.held handle.new.held (IsDel key.now true) }
-    ensures absent { result ≡ 5 → Changes handle.old.held handle.new.held (IsDel key.now false) }
+    ensures done { result ≡ 0 → Changes handle.old.held handle.new.held (IsPairDel key.now true) }
+    ensures absent { result ≡ 5 → Changes handle.old.held handle.new.held (IsPairDel key.now false) }
     ensures unchanged { result ≢ 0 → handle.new.held ≡ handle.old.held }
     ensures argument { (result ≡ 4) ↔ (handle.old.held ≡ None) }
     ensures status { (result ≡ 0) ⊎ (result ≡ 1) ⊎ (result ≡ 4) ⊎ (result ≡ 5) }

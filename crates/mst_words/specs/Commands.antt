@@ -20,14 +20,14 @@ use Rattle.mst_words.specs.declared.verb.Setting.TheVariants.{From, To, Prefix, 
 use Rattle.mst_words.specs.declared.verb.Verb.{Verb}
 
 -- the word is the decimal digits of this number of 64 bits, which may stand after a plus
-abbrev pub IsNumber : Word → ℕ → Type 0
-IsNumber word number =
+abbrev pub IsDecimal : Word → ℕ → Type 0
+IsDecimal word number =
     IsNumeral 10 (without_leading_plus word) × (number ≡ digits_value 10 (without_leading_plus word)) × (number < 2 ^ 64)
 
 -- what is made of the thing that a word is, or this mistake where it is none
-abbrev pub Reads : {A B : Type 0} → (Word → A → Type 0) → Word → (A → B) → Mistake → Result B Mistake → Type 0
-Reads {A} Is word make wrong (Ok made) = (thing : A) × Is word thing × (made ≡ make thing)
-Reads {A} Is word make wrong (Err why) = ((thing : A) → ¬ Is word thing) × (why ≡ wrong)
+abbrev pub ReadsWord : {A B : Type 0} → (Word → A → Type 0) → Word → (A → B) → Mistake → Result B Mistake → Type 0
+ReadsWord {A} Is word make wrong (Ok made) = (thing : A) × Is word thing × (made ≡ make thing)
+ReadsWord {A} Is word make wrong (Err why) = ((thing : A) → ¬ Is word thing) × (why ≡ wrong)
 
 -- what a word at a place says; the value `-` is read from standard input, unless `--` stands before it
 abbrev pub placed : Place → Word → Bool → Said → Said
@@ -41,10 +41,10 @@ abbrev pub Sets : Setting → Word → Said → Result Said Mistake → Type 0
 Sets From word said result = result ≡ Ok (record said { from = Some word })
 Sets To word said result = result ≡ Ok (record said { to = Some word })
 Sets Prefix word said result = result ≡ Ok (record said { prefix = Some word })
-Sets Limit word said result = Reads IsNumber word (λ number. record said { limit = Some number }) (NoNumber word) result
-Sets Wait word said result = Reads IsNumber word (λ number. record said { wait = Some number }) (NoNumber word) result
-Sets Forget word said result = Reads IsSpan word (λ span. record said { forget = Some span }) (NoSpan word) result
-Sets ForHashKey word said result = Reads IsHashKey word (λ key. record said { hash_key = Some key }) (NoHashKey word) result
+Sets Limit word said result = ReadsWord IsDecimal word (λ number. record said { limit = Some number }) (NoNumber word) result
+Sets Wait word said result = ReadsWord IsDecimal word (λ number. record said { wait = Some number }) (NoNumber word) result
+Sets Forget word said result = ReadsWord IsSpan word (λ span. record said { forget = Some span }) (NoSpan word) result
+Sets ForHashKey word said result = ReadsWord IsHashKey word (λ key. record said { hash_key = Some key }) (NoHashKey word) result
 Sets Json word said result = result ≡ Ok (record said { json = true })
 Sets Log word said result = result ≡ Ok (record said { log = true })
 Sets Ahead word said result = result ≡ Ok (record said { ahead = true })
@@ -52,8 +52,8 @@ Sets Absent word said result = result ≡ Ok (record said { wanted = Some None }
 Sets Old word said result = result ≡ Ok (record said { wanted = Some (Some word) })
 Sets Answers word said result = result ≡ Ok (record said { answers = true })
 Sets Both word said result = result ≡ Ok (record said { both = true })
-Sets MaxBytes word said result = Reads IsNumber word (λ number. record said { max_bytes = Some number }) (NoNumber word) result
-Sets MaxEntries word said result = Reads IsNumber word (λ number. record said { max_entries = Some number }) (NoNumber word) result
+Sets MaxBytes word said result = ReadsWord IsDecimal word (λ number. record said { max_bytes = Some number }) (NoNumber word) result
+Sets MaxEntries word said result = ReadsWord IsDecimal word (λ number. record said { max_entries = Some number }) (NoNumber word) result
 
 -- the same where words were read before
 abbrev pub SetsOn : Setting → Word → Reading → Result Reading Mistake → Type 0
@@ -112,9 +112,9 @@ TakesWord verb word reading result =
     (MatchBool (bytes_eq word (codes "--")) (result ≡ Ok (record reading { is_behind = true })) (TakesOption verb word reading result))
 
 -- the next word, which is the value of the setting that is to have one
-abbrev pub Takes : Verb → Option Setting → Word → Reading → Result Reading Mistake → Type 0
-Takes verb (Some setting) word reading result = SetsOn setting word (record reading { pending = None }) result
-Takes verb None word reading result = TakesWord verb word reading result
+abbrev pub TakesNext : Verb → Option Setting → Word → Reading → Result Reading Mistake → Type 0
+TakesNext verb (Some setting) word reading result = SetsOn setting word (record reading { pending = None }) result
+TakesNext verb None word reading result = TakesWord verb word reading result
 
 -- whether entries may be ahead of the clock where an import takes no log
 abbrev pub is_alone : Verb → Said → Bool
@@ -137,21 +137,21 @@ finished verb None None reading = Err (Missing (codes "FILE"))
 finished verb None (Some file) reading = completed verb file reading
 
 -- where a word was taken, the words after it are read, and else its mistake is that of all
-abbrev pub GoesOn : Result Reading Mistake → (Reading → Type 0) → (Mistake → Type 0) → Type 0
-GoesOn (Ok next) Rest Wrong = Rest next
-GoesOn (Err why) Rest Wrong = Wrong why
+abbrev pub ReadsOnAfter : Result Reading Mistake → (Reading → Type 0) → (Mistake → Type 0) → Type 0
+ReadsOnAfter (Ok next) Rest Wrong = Rest next
+ReadsOnAfter (Err why) Rest Wrong = Wrong why
 
 -- the words of a command are read one by one, up to the first mistake
-abbrev pub ReadsOn : Verb → Reading → List Word → Result (Word × Said) Mistake → Type 0
-ReadsOn verb reading [] result = result ≡ finished verb reading.pending reading.file reading
-ReadsOn verb reading (word ∷ words) result =
-    (next : Result Reading Mistake) × Takes verb reading.pending word reading next
-    × GoesOn next (λ (to : Reading). ReadsOn verb to words result) (λ why. result ≡ Err why)
+abbrev pub ReadsWords : Verb → Reading → List Word → Result (Word × Said) Mistake → Type 0
+ReadsWords verb reading [] result = result ≡ finished verb reading.pending reading.file reading
+ReadsWords verb reading (word ∷ words) result =
+    (next : Result Reading Mistake) × TakesNext verb reading.pending word reading next
+    × ReadsOnAfter next (λ (to : Reading). ReadsWords verb to words result) (λ why. result ≡ Err why)
 
 -- the words of a command, whose file is known or their first word at a place, give this command on a file
-abbrev pub Gives : Verb → Option Word → List Word → Result Task Mistake → Type 0
-Gives verb file words (Ok task) = (at : Word) × (said : Said) × ReadsOn verb (begun file) words (Ok (at, said)) × IsTask task verb at said
-Gives verb file words (Err why) = ReadsOn verb (begun file) words (Err why)
+abbrev pub GivesTask : Verb → Option Word → List Word → Result Task Mistake → Type 0
+GivesTask verb file words (Ok task) = (at : Word) × (said : Said) × ReadsWords verb (begun file) words (Ok (at, said)) × IsTask task verb at said
+GivesTask verb file words (Err why) = ReadsWords verb (begun file) words (Err why)
 
 -- whether a value stands after a word, which is an option of the command
 abbrev pub IsBeforeValue : Verb → Word → Bool → Type 0
@@ -177,8 +177,8 @@ AsksHelp verb false (word ∷ words) result = AsksFrom verb word (λ is_before. 
 -- what the words after the name of a command ask for: its help, or else that it is run with what they give
 abbrev pub AsksOf : Verb → List Word → Result Asked Mistake → Type 0
 AsksOf verb words (Ok (HelpOf other)) = (other ≡ verb) × AsksHelp verb false words true
-AsksOf verb words (Ok (Run task)) = AsksHelp verb false words false × Gives verb None words (Ok task)
-AsksOf verb words (Err why) = AsksHelp verb false words false × Gives verb None words (Err why)
+AsksOf verb words (Ok (Run task)) = AsksHelp verb false words false × GivesTask verb None words (Ok task)
+AsksOf verb words (Err why) = AsksHelp verb false words false × GivesTask verb None words (Err why)
 AsksOf verb words (Ok Help) = ⊥
 AsksOf verb words (Ok Version) = ⊥
 

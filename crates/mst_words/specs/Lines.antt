@@ -14,8 +14,8 @@ pub record Line : Type 0 where
   pub place : Place
 
 -- nothing has been read
-abbrev pub start : Line
-start = record { words = []; word = []; place = Between }
+abbrev pub nothing_read : Line
+nothing_read = record { words = []; word = []; place = Between }
 
 -- the character that stands for another after a backslash
 abbrev pub meant_by : ℕ → Option ℕ
@@ -68,14 +68,14 @@ closed Escaped line = None
 
 -- the words of a line, or none where a quote isn't closed or a backslash has no meaning
 abbrev pub words_in : List ℕ → Option (List (List ℕ))
-words_in text = option_and_then (λ (line : Line). closed line.place line) (read_all (chars text) start)
+words_in text = option_and_then (λ (line : Line). closed line.place line) (read_all (chars text) nothing_read)
 
 -- how far a line has been read, as bytes
 abbrev pub line_of : Reading → Line
 line_of reading = record { words = map string_bytes reading.words.items; word = string_bytes reading.word; place = reading.place }
 
 -- a line was read so far, or memory ran out, or it has no words
-abbrev pub IsRead : Option Line → Result Reading NoWords → Type 0
-IsRead line (Ok reading) = line ≡ Some (line_of reading)
-IsRead line (Err Memory) = ⊤
-IsRead line (Err Wrong) = line ≡ None
+abbrev pub IsLineRead : Option Line → Result Reading NoWords → Type 0
+IsLineRead line (Ok reading) = line ≡ Some (line_of reading)
+IsLineRead line (Err Memory) = ⊤
+IsLineRead line (Err Wrong) = line ≡ None

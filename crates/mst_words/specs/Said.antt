@@ -98,8 +98,8 @@ wanted_of wanted.Absence = None
 wanted_of (wanted.Text text) = Some text.now
 
 -- what is given, as bytes
-abbrev pub said_by : Given → Said
-said_by given = record {
+abbrev pub said_of : Given → Said
+said_of given = record {
   key = given.key.now;
   value = given.value.now;
   is_input = given.is_input;
@@ -125,7 +125,7 @@ said_by given = record {
 -- how far words were taken, as bytes
 abbrev pub reading_of : Taken → Reading
 reading_of taken = record {
-  said = said_by taken.given;
+  said = said_of taken.given;
   file = option_copied taken.file;
   places = taken.places;
   pending = taken.pending;
@@ -157,4 +157,4 @@ with_mistake result = told (λ it. it) result
 
 -- the file and what is given, as bytes
 abbrev pub with_file : Bor (List ℕ) × Given → Word × Said
-with_file given = (given.0.now, said_by given.1)
+with_file given = (given.0.now, said_of given.1)

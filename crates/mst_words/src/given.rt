@@ -1,6 +1,6 @@
 //! What the words of a command give, and the command that takes it.
 ghost use Rattle.std.specs.Prelude.{◌≡◌};
-ghost use Rattle.mst_words.specs.Said.{said_by};
+ghost use Rattle.mst_words.specs.Said.{said_of};
 ghost use Rattle.mst_words.specs.Tasks.{AreLimits, IsCommand, IsSelection, IsTableCommand, IsTask};
 ghost use Rattle.mst_words.specs.declared.command.Command.TheVariants.{Store};
 ghost use Rattle.mst_words.specs.declared.command.StoreCommand.TheVariants.{Table};
@@ -37,7 +37,7 @@ pub(crate) struct Given<'a> {
 
 /// What is taken of a peer.
 fn limits_of(given: &Given<'_>) -> Limits
-    ensures { AreLimits result (said_by given.now) }
+    ensures { AreLimits result (said_of given.now) }
 {
     Limits {
         ahead: given.ahead,
@@ -48,7 +48,7 @@ fn limits_of(given: &Given<'_>) -> Limits
 
 /// A put.
 fn put_of<'a>(given: &Given<'a>) -> TableCommand<'a>
-    ensures { IsTableCommand result Put (said_by given.now) }
+    ensures { IsTableCommand result Put (said_of given.now) }
 {
     TableCommand::Put {
         key: given.key,
@@ -60,7 +60,7 @@ fn put_of<'a>(given: &Given<'a>) -> TableCommand<'a>
 
 /// A list.
 fn list_of<'a>(given: &Given<'a>) -> TableCommand<'a>
-    ensures { IsTableCommand result List (said_by given.now) }
+    ensures { IsTableCommand result List (said_of given.now) }
 {
     TableCommand::List {
         selection: Selection {
@@ -82,7 +82,7 @@ fn on_table(command: TableCommand<'_>) -> Command<'_>
 
 /// The command of this name.
 fn command_of<'a>(verb: Verb, given: &Given<'a>) -> Command<'a>
-    ensures { IsCommand result verb (said_by given.now) }
+    ensures { IsCommand result verb (said_of given.now) }
 {
     let (key, json, is_log, ahead) = (given.key, given.json, given.log, given.ahead);
     let (limits, both) = (limits_of(given), given.both);
@@ -120,7 +120,7 @@ fn command_of<'a>(verb: Verb, given: &Given<'a>) -> Command<'a>
 
 /// The command of this name on a file, with what it takes.
 pub(crate) fn on_file<'a>(verb: Verb, file: &'a str, given: &Given<'a>) -> Task<'a>
-    ensures { IsTask result verb file.now (said_by given.now) }
+    ensures { IsTask result verb file.now (said_of given.now) }
 {
     Task {
         file,

@@ -1,6 +1,6 @@
 //! The words of a line of the shell.
 ghost use Rattle.std.specs.Prelude.{◌≡◌, None, Some, IfOk, IsErrOf, map, string_bytes};
-ghost use Rattle.mst_words.specs.Lines.{IsRead, ended, line_of, meant_by as meaning_of, next, read_plain as plainly_read, start, words_in};
+ghost use Rattle.mst_words.specs.Lines.{IsLineRead, ended, line_of, meant_by as meaning_of, next, read_plain as plainly_read, nothing_read, words_in};
 
 use std::alloc::{AllocError, Global};
 
@@ -60,7 +60,7 @@ struct Reading {
 
 /// Ends the word.
 fn end_word(alloc: Global, reading: Reading) -> Result<Reading, NoWords>
-    ensures { IsRead (Some (ended (line_of reading))) result }
+    ensures { IsLineRead (Some (ended (line_of reading))) result }
 {
     let mut reading = reading;
     let word = reading.word;
@@ -74,7 +74,7 @@ fn end_word(alloc: Global, reading: Reading) -> Result<Reading, NoWords>
 
 /// Reads a character outside of quotes.
 fn read_plain(alloc: Global, reading: Reading, character: char) -> Result<Reading, NoWords>
-    ensures { IsRead (Some (plainly_read character (line_of reading))) result }
+    ensures { IsLineRead (Some (plainly_read character (line_of reading))) result }
 {
     let mut reading = reading;
     match character {
@@ -94,7 +94,7 @@ fn read_plain(alloc: Global, reading: Reading, character: char) -> Result<Readin
 
 /// Reads a character.
 fn read(alloc: Global, reading: Reading, character: char) -> Result<Reading, NoWords>
-    ensures { IsRead (next character (line_of reading)) result }
+    ensures { IsLineRead (next character (line_of reading)) result }
 {
     let mut reading = reading;
     match reading.place {

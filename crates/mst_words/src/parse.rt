@@ -1,11 +1,11 @@
 //! A command line as what it asks for.
 ghost use Rattle.std.specs.Prelude.{◌≡◌, map, codes, slice_get, string_bytes, false};
 ghost use Rattle.std.specs.Option.{option_copied, option_map_or};
-ghost use Rattle.mst_words.specs.Commands.{Asks, AsksHelp, AsksHelpOf, AsksNamed, Comes, Gives, IsBeforeValue, IsNumber, Reads, Sets, Takes, TakesOption};
+ghost use Rattle.mst_words.specs.Commands.{Asks, AsksHelp, AsksHelpOf, AsksNamed, Comes, GivesTask, IsBeforeValue, IsDecimal, ReadsWord, Sets, TakesNext, TakesOption};
 ghost use Rattle.mst_words.specs.Commands.{finished, is_alone as said_alone, is_help as names_help, is_option as begins_option, placed as says_at, stands};
 ghost use Rattle.mst_words.specs.Forms.{least_of, place_name, places_of};
 ghost use Rattle.mst_words.specs.Names.{takes_value};
-ghost use Rattle.mst_words.specs.Said.{NoNumber, begun, reading_of, said_by, told, with_file, with_mistake};
+ghost use Rattle.mst_words.specs.Said.{NoNumber, begun, reading_of, said_of, told, with_file, with_mistake};
 
 use crate::command::{Asked, Task, Wanted};
 use crate::given::{Given, on_file};
@@ -66,7 +66,7 @@ fn nothing<'a>(file: Option<&'a str>) -> Taken<'a>
 
 /// What is given, with a word at its place.
 fn placed<'a>(given: Given<'a>, place: Place, word: &'a str, is_behind: bool) -> Given<'a>
-    ensures { said_by result ≡ says_at place word.now is_behind (said_by given.entry) }
+    ensures { said_of result ≡ says_at place word.now is_behind (said_of given.entry) }
 {
     let mut given = given;
     match place {
@@ -106,7 +106,7 @@ fn at_place<'a>(
 
 /// The number that a word is.
 fn number_of(word: &str) -> Result<u64, Wrong<'_>>
-    ensures { Reads IsNumber word.now (λ number. number) (NoNumber word.now) (with_mistake result) }
+    ensures { ReadsWord IsDecimal word.now (λ number. number) (NoNumber word.now) (with_mistake result) }
 {
     match word.parse() {
         Ok(number) => Ok(number),
@@ -116,7 +116,7 @@ fn number_of(word: &str) -> Result<u64, Wrong<'_>>
 
 /// Takes the value of a setting.
 fn with_value<'a>(given: Given<'a>, setting: Setting, word: &'a str) -> Result<Given<'a>, Wrong<'a>>
-    ensures { Sets setting word.now (said_by given.entry) (told said_by result) }
+    ensures { Sets setting word.now (said_of given.entry) (told said_of result) }
 {
     let mut given = given;
     match setting {
@@ -207,7 +207,7 @@ fn take<'a>(
     word: &'a str,
 ) -> Result<Taken<'a>, Wrong<'a>>
     requires { form.now.places.now ≡ places_of verb }
-    ensures { Takes verb taken.entry.pending word.now (reading_of taken.entry) (told reading_of result) }
+    ensures { TakesNext verb taken.entry.pending word.now (reading_of taken.entry) (told reading_of result) }
 {
     let mut taken = taken;
     if let Some(setting) = taken.pending {
@@ -239,7 +239,7 @@ fn name_of(places: &'static [Place], at: usize) -> &'static str
 
 /// Whether entries may be ahead of the clock where a command takes none of another copy, as an import without a log does.
 fn is_alone(given: &Given<'_>, verb: Verb) -> bool
-    ensures { result ≡ said_alone verb (said_by given.now) }
+    ensures { result ≡ said_alone verb (said_of given.now) }
 {
     given.ahead && !given.log && takes_setting(verb, Setting::Log)
 }
@@ -275,7 +275,7 @@ pub fn task_of<'a>(
     file: Option<&'a str>,
     words: &'a [String],
 ) -> Result<Task<'a>, Wrong<'a>>
-    ensures { Gives verb (option_copied file.entry) (map string_bytes words.now) (with_mistake result) }
+    ensures { GivesTask verb (option_copied file.entry) (map string_bytes words.now) (with_mistake result) }
 {
     let form = form_of(verb);
     let mut taken = nothing(file);

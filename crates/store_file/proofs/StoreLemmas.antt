@@ -22,7 +22,7 @@ use Rattle.sqlite_store.specs.Listing.{all_shapes, file_trees}
 use Rattle.sqlite_store.specs.Saved.{kept_schema, schema_for}
 use Rattle.sqlite_store.specs.Unopened.{state_of, files_of}
 use Rattle.store_file.specs.Catalog.{laid_out}
-use Rattle.store_file.specs.Files.{HasTables, HoldsAlone, HoldsStore, HoldsTrees, IsLaidOut, LeavesStore, image_of}
+use Rattle.store_file.specs.Files.{HasStoreTables, HoldsAlone, HoldsStore, HoldsTrees, IsLaidOut, LeavesStore, image_of}
 
 entries_shape : all_shapes laid_out 0 ≡ Index plain
 unfolding all_shapes
@@ -58,11 +58,11 @@ module _ {D : Type 0} {g : Ghosts D} where
   }
 
   -- no savepoint has another schema
-  kept : {it : FileStore D g} → HasTables it → kept_schema it.saved it.schema.items ≡ laid_out
+  kept : {it : FileStore D g} → HasStoreTables it → kept_schema it.saved it.schema.items ≡ laid_out
   kept {it} has = ap (λ o. kept_schema o it.schema.items) has.unaltered ∙ has.schema
 
   module _ (it : FileStore D g) (stays : SeenMayStay g) (is_open : IsTrue (view it).is_open) where
-    holds_commit : HasTables it → (left : Image) → Recovers (state it).page_size left (state it).committed → HoldsTrees left (view it).committed
+    holds_commit : HasStoreTables it → (left : Image) → Recovers (state it).page_size left (state it).committed → HoldsTrees left (view it).committed
     holds_commit has left found =
         ∥∥₁_elim (size_is_allowed it.pool) squash₁ (λ size. ∥∥₁_map (it.stored is_open) (λ stored. let r : (held : HoldsStore left) × (held.db ≡ (view it).committed) = (
           record {
@@ -81,14 +81,14 @@ module _ {D : Type 0} {g : Ghosts D} where
         ) in r))
 
     -- with an empty log, each image that a crash may leave has the last commit in the database file
-    pub copied : HasTables it → log_frames it ≡ 0 → (left : Image) → (state it).may_leave left → HoldsAlone left (view it).committed
+    pub copied : HasStoreTables it → log_frames it ≡ 0 → (left : Image) → (state it).may_leave left → HoldsAlone left (view it).committed
     copied has empty left may = record {
       both = holds_commit has left ((settled it.pool stays is_open).durable left may);
       alone = holds_commit has _ (file_alone it.pool stays is_open empty left may);
     }
 
   -- what a crash leaves of the files of a store is one, with trees that it may come back with
-  pub left_in : (it : FileStore D g) → HasTables it → LeavesStore it
+  pub left_in : (it : FileStore D g) → HasStoreTables it → LeavesStore it
   left_in it has clean left may =
       let can = may_leave_is it.pool left clean may in
       let size = (state it).page_size in

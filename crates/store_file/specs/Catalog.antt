@@ -38,16 +38,16 @@ abbrev pub AreFormer : List Row → Type 0
 AreFormer rows = Lists FORMER_ENTRIES_SQL.now FORMER_ABOUT_SQL.now rows ⊎ Lists ENTRIES_SQL.now FORMER_ABOUT_SQL.now rows
 
 -- they aren't those of a store, and are told as one in an earlier format or as something else
-abbrev pub Refuses : List Row → OpenFault → Type 0
-Refuses rows Format = AreFormer rows
-Refuses rows Foreign = ¬ Lists ENTRIES_SQL.now ABOUT_SQL.now rows × ¬ AreFormer rows
-Refuses rows _ = ⊥
+abbrev pub RefusesTables : List Row → OpenFault → Type 0
+RefusesTables rows Format = AreFormer rows
+RefusesTables rows Foreign = ¬ Lists ENTRIES_SQL.now ABOUT_SQL.now rows × ¬ AreFormer rows
+RefusesTables rows _ = ⊥
 
-abbrev pub fault_of : OpenError → OpenFault
-fault_of refusal.OutOfMemory = Memory
-fault_of refusal.Io = Io
-fault_of refusal.Full = Full
-fault_of refusal.Refused = Corrupt
+abbrev pub open_fault_of : OpenError → OpenFault
+open_fault_of refusal.OutOfMemory = Memory
+open_fault_of refusal.Io = Io
+open_fault_of refusal.Full = Full
+open_fault_of refusal.Refused = Corrupt
 
 abbrev pub fault_of_probe : Error → OpenFault
 fault_of_probe probe.OutOfMemory = Memory

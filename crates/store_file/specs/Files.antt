@@ -50,7 +50,7 @@ pub record HoldsAlone (image : Image) (db : Trees) : Type 0 where
   pub alone : HoldsTrees (record image { log = [] }) db
 
 -- a database has the two tables, whose schema no transaction has changed, and no sums at the ends of its pages
-pub record HasTables {D : Type 0} {g : Ghosts D} (it : FileStore D g) : Type 0 where
+pub record HasStoreTables {D : Type 0} {g : Ghosts D} (it : FileStore D g) : Type 0 where
   pub plain : IsPageSize (state it).page_size
   pub schema : schema_of it ≡ laid_out
   pub unaltered : IsUnaltered it

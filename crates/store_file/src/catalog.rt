@@ -1,7 +1,7 @@
 //! The two tables of a store's file.
 ghost use Rattle.std.specs.Prelude.{◌≡◌, ◌↔◌, IsTrue, MatchResult, map};
 ghost use Rattle.sqlite_store.specs.Catalog.{wanted_of};
-ghost use Rattle.store_file.specs.Catalog.{AreFormer, IsTableRow, Lists, Refuses, laid_out};
+ghost use Rattle.store_file.specs.Catalog.{AreFormer, IsTableRow, Lists, RefusesTables, laid_out};
 
 use crate::fault::OpenFault;
 use sqlite_trees::schema::Object;
@@ -91,7 +91,7 @@ fn are_former(rows: &[Row]) -> bool
 ///
 /// [`OpenFault::Format`] for those of a store in an earlier format, and [`OpenFault::Foreign`] for others.
 pub fn recognise(rows: &[Row]) -> Result<(), OpenFault>
-    ensures { MatchResult result (λ _. Lists ENTRIES_SQL.now ABOUT_SQL.now rows.now) (Refuses rows.now) }
+    ensures { MatchResult result (λ _. Lists ENTRIES_SQL.now ABOUT_SQL.now rows.now) (RefusesTables rows.now) }
 {
     if lists(rows, ENTRIES_SQL, ABOUT_SQL) {
         return Ok(());

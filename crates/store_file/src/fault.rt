@@ -1,6 +1,6 @@
 //! Why a file isn't opened or made.
 ghost use Rattle.std.specs.Prelude.{◌≡◌};
-ghost use Rattle.store_file.specs.Catalog.{fault_of, fault_of_probe};
+ghost use Rattle.store_file.specs.Catalog.{open_fault_of, fault_of_probe};
 
 use sqlite_store::OpenError;
 use sqlite_trees::error::StoreError;
@@ -38,7 +38,7 @@ pub enum ReopenFault {
 
 /// What a refusal to open a store means.
 pub fn fault_of(error: OpenError) -> OpenFault
-    ensures { result ≡ fault_of error }
+    ensures { result ≡ open_fault_of error }
 {
     match error {
         OpenError::OutOfMemory => OpenFault::Memory,

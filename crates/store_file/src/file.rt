@@ -5,8 +5,8 @@ ghost use Rattle.sqlite_wal.specs.Reads.{AreClean, OnlyReads};
 ghost use Rattle.sqlite_trees.specs.Tree.{Trees};
 ghost use Rattle.sqlite_store.specs.FileStore.{view};
 ghost use Rattle.sqlite_store.specs.Unopened.{state_of, files_of, wanted_by};
-ghost use Rattle.store_file.specs.Catalog.{fault_of, laid_out};
-ghost use Rattle.store_file.specs.Files.{HasTables, HoldsStore, HoldsTrees, HoldsNothing, IsLaidOut, KeepStore, LeavesStore, image_of};
+ghost use Rattle.store_file.specs.Catalog.{open_fault_of, laid_out};
+ghost use Rattle.store_file.specs.Files.{HasStoreTables, HoldsStore, HoldsTrees, HoldsNothing, IsLaidOut, KeepStore, LeavesStore, image_of};
 
 use crate::catalog::{objects, recognise};
 use crate::fault::{OpenFault, ReopenFault, fault_of, fault_of_probe};
@@ -68,7 +68,7 @@ fn find_size<D: Disk>(alloc: Global, files: &mut Files<D>) -> Result<PageSize, O
 
 /// What a refusal means, where a failure of the disk is told by what the files met since this tally.
 fn named<D: Disk>(error: OpenError, before: Tally, left: &Unopened<D>) -> OpenFault
-    ensures told { error ≢ OpenError.Io → result ≡ fault_of error }
+    ensures told { error ≢ OpenError.Io → result ≡ open_fault_of error }
     ensures disk { error ≡ OpenError.Io → (result ≡ OpenFault.Io) ⊎ ((result ≡ OpenFault.Corrupt) ⊎ (result ≡ OpenFault.Full)) }
 {
     if error != OpenError::Io {
@@ -217,7 +217,7 @@ const SIZES: [usize; 8] = [512, 1024, 2048, 4096, 8192, 16_384, 32_768, 65_536];
 /// [`AllocError`] if memory runs out.
 #[tactic(auto, using(crate::proofs::StoreLemmas::left_in))]
 pub fn is_store<D: Disk>(store: &FileStore<D>) -> Result<bool, AllocError>
-    ensures tables { IfOk result (λ is. IsTrue is → HasTables store.now) }
+    ensures tables { IfOk result (λ is. IsTrue is → HasStoreTables store.now) }
     ensures left { IfOk result (λ is. IsTrue is → LeavesStore store.now) }
 {
     for bytes in SIZES {

@@ -76,7 +76,8 @@ module _ {S : Type 0} (g : Ghosts S) (Is : Trees → Trees → Type 0) (old mid 
   }
 
   -- what was written and then committed is a transaction
-  pub committed : {A E : Type 0} (result : Result A E) → OnOk result (IsClean g new → Commits (g.view mid) (g.view new)) → OnErr result (IsRolledBack (g.view mid) (g.view new)) → IsTransaction g old new result Is
+  pub committed : {A E : Type 0} (result : Result A E) → OnOk result (IsClean g new → Commits (g.view mid) (g.view new))
+      → OnErr result (IsRolledBack (g.view mid) (g.view new)) → IsTransaction g old new result Is
   committed (Ok x) commits undone = record {
     made = λ clean. subst (Is (trees_of g old)) (sym (ap (λ v. v.trees) (commits clean).is)) (written.made (early clean));
     log = log commits;

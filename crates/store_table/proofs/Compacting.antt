@@ -26,7 +26,8 @@ compacts g before rows old mid new steady latest same no_more leaves trees left 
     first : IsClean g mid → IsClean g old
     first clean = omega (arith, steady.clean, clean)
 
-    by : (IsClean g mid × HasInstead (map entry_row (filter (stays before) rows)) (trees_of g mid) trees) ⊎ g.recovers mid trees → (IsClean g old × IsCompacted before (trees_of g old) trees) ⊎ g.recovers old trees
+    by : (IsClean g mid × HasInstead (map entry_row (filter (stays before) rows)) (trees_of g mid) trees) ⊎ g.recovers mid trees
+        → (IsClean g old × IsCompacted before (trees_of g old) trees) ⊎ g.recovers old trees
     by (inl at) = inl (first at.0, (rows, latest at.0, subst (λ t. HasInstead (map entry_row (filter (stays before) rows)) t trees) (same at.0) at.1))
     by (inr r) = inr (no_more trees r)
 

@@ -19,7 +19,7 @@ use Rattle.store_table.specs.declared.register.Register.{Register}
 use Rattle.store_table.specs.Entries.{entry_order}
 use Rattle.store_table.specs.Reading.{Groups, with_entry, groups_in, last_of}
 use Rattle.store_table.specs.Registers.{register_order}
-use Rattle.store_table.specs.Rows.{AreLatest, same_key}
+use Rattle.store_table.specs.Rows.{AreLatest, have_one_key}
 use Rattle.store_table.specs.contracts.register.RegisterOrd.TheImpl.Laws.{total-law}
 use Rattle.store_table.proofs.OrderOfEntries.{entry_order_total}
 use Rattle.store_table.proofs.RowLemmas.{rows_ascend, rows_taken, rows_latest}
@@ -32,31 +32,32 @@ pub grouped_more : (entries : List Entry) (entry : Entry) → groups_in (entries
 grouped_more entries entry = fold-append (λ (s : Groups) e. with_entry s.0 s.1 e) ([], None) entries (entry ∷ [])
 
 -- rows of one key are told apart from others alike
-alike : (a b : Entry) → same_key b a ≡ true → (x : Entry) → same_key x a ≡ same_key x b
+alike : (a b : Entry) → have_one_key b a ≡ true → (x : Entry) → have_one_key x a ≡ have_one_key x b
 alike a b same x = ap (λ (bytes : List ℕ). pointwise nat_eq (string_bytes x.0) bytes) (sym (same_text (string_bytes b.0) (string_bytes a.0) (sym same)))
 
 tail_same : (x : Entry) (xs ys : List Entry) → x ∷ xs ≡ x ∷ ys → xs ≡ ys
 tail_same x xs ys e = cc
 
 -- what is after a row depends on its key alone
-from_alike : (a b : Entry) → same_key b a ≡ true → (xs tail : List Entry) → dedup_from same_key b xs ≡ b ∷ tail → dedup_from same_key a xs ≡ a ∷ tail
+from_alike : (a b : Entry) → have_one_key b a ≡ true → (xs tail : List Entry) → dedup_from have_one_key b xs ≡ b ∷ tail → dedup_from have_one_key a xs ≡ a ∷ tail
 from_alike a b same [] tail e = ap (λ l. a ∷ l) (tail_same b [] tail e)
-from_alike a b same (x ∷ xs) tail e = step (same_key x a) (same_key x b) refl (sym (alike a b same x)) (from_alike a b same xs tail)
+from_alike a b same (x ∷ xs) tail e = step (have_one_key x a) (have_one_key x b) refl (sym (alike a b same x)) (from_alike a b same xs tail)
   where
-    step : (p q : Bool) → same_key x a ≡ p → same_key x b ≡ p → (dedup_from same_key b xs ≡ b ∷ tail → dedup_from same_key a xs ≡ a ∷ tail) → dedup_from same_key a (x ∷ xs) ≡ a ∷ tail
+    step : (p q : Bool) → have_one_key x a ≡ p → have_one_key x b ≡ p → (dedup_from have_one_key b xs ≡ b ∷ tail → dedup_from have_one_key a xs ≡ a ∷ tail)
+        → dedup_from have_one_key a (x ∷ xs) ≡ a ∷ tail
     step true q h k more = rw h (more (rw k at e))
-    step false q h k more = rw h (ap (λ l. a ∷ l) (tail_same b (dedup_from same_key x xs) tail (rw k at e)))
+    step false q h k more = rw h (ap (λ l. a ∷ l) (tail_same b (dedup_from have_one_key x xs) tail (rw k at e)))
 
 back : (x : Entry) (xs : List Entry) → reverse (x ∷ xs) ≡ reverse xs ++ x ∷ []
 back x xs = reverse-append (x ∷ []) xs
 
 -- what a reversed list keeps of each key, as groups
-split : (zs : List Entry) (a : Entry) → (tail : List Entry) × (dedup_from same_key a zs ≡ a ∷ tail) × (groups_in (reverse (a ∷ zs)) ≡ (reverse tail, Some a))
+split : (zs : List Entry) (a : Entry) → (tail : List Entry) × (dedup_from have_one_key a zs ≡ a ∷ tail) × (groups_in (reverse (a ∷ zs)) ≡ (reverse tail, Some a))
 split [] a = ([], refl, refl)
-split (b ∷ zs) a = step (same_key b a) refl (split zs b)
+split (b ∷ zs) a = step (have_one_key b a) refl (split zs b)
   where
-    step : (p : Bool) → same_key b a ≡ p → (tail : List Entry) × (dedup_from same_key b zs ≡ b ∷ tail) × (groups_in (reverse (b ∷ zs)) ≡ (reverse tail, Some b))
-        → (tail : List Entry) × (dedup_from same_key a (b ∷ zs) ≡ a ∷ tail) × (groups_in (reverse (a ∷ b ∷ zs)) ≡ (reverse tail, Some a))
+    step : (p : Bool) → have_one_key b a ≡ p → (tail : List Entry) × (dedup_from have_one_key b zs ≡ b ∷ tail) × (groups_in (reverse (b ∷ zs)) ≡ (reverse tail, Some b))
+        → (tail : List Entry) × (dedup_from have_one_key a (b ∷ zs) ≡ a ∷ tail) × (groups_in (reverse (a ∷ b ∷ zs)) ≡ (reverse tail, Some a))
     step true h r =
         let all = ap groups_in (back a (b ∷ zs)) ∙ grouped_more (reverse (b ∷ zs)) a ∙ ap (λ (s : Groups). with_entry s.0 s.1 a) r.2 in
         (r.0, rw h (from_alike a b h zs r.0 r.1), all ∙ rw h refl)
@@ -65,7 +66,7 @@ split (b ∷ zs) a = step (same_key b a) refl (split zs b)
         let turned_back = ap (λ (l : List Entry). (l, Some a)) (sym (back b r.0)) in
         (b ∷ r.0, rw h (ap (λ l. a ∷ l) r.1), all ∙ rw h turned_back)
 
-last_kept : (zs : List Entry) → last_of (groups_in (reverse zs)) ≡ reverse (dedup same_key zs)
+last_kept : (zs : List Entry) → last_of (groups_in (reverse zs)) ≡ reverse (dedup have_one_key zs)
 last_kept [] = refl
 last_kept (a ∷ zs) = let r = split zs a in ap last_of r.2 ∙ sym (back a r.0) ∙ ap reverse (sym r.1)
 
@@ -80,9 +81,9 @@ last_latest es up =
     let ties = λ (a b : Entry). sym (is_eq-slice_cmp (string_bytes a.0) (string_bytes b.0)) in
     let same = IsPermutation-refl es in
     let sorted = sorted_ascending es up in
-    let kept : reverse (dedup same_key (reverse es)) ≡ last_of (groups_in es) = sym (last_kept (reverse es)) ∙ ap (λ (l : List Entry). last_of (groups_in l)) (reverse-reverse es) in
+    let kept : reverse (dedup have_one_key (reverse es)) ≡ last_of (groups_in es) = sym (last_kept (reverse es)) ∙ ap (λ (l : List Entry). last_of (groups_in l)) (reverse-reverse es) in
     subst (AreLatest es) kept (record {
-      ascending = rows_ascend text_order string_cmp_total register_order total-law same_key ties es es same sorted;
-      taken = rows_taken text_order string_cmp_total register_order total-law same_key ties es es same sorted;
-      latest = rows_latest text_order string_cmp_total register_order total-law same_key ties es es same sorted;
+      ascending = rows_ascend text_order string_cmp_total register_order total-law have_one_key ties es es same sorted;
+      taken = rows_taken text_order string_cmp_total register_order total-law have_one_key ties es es same sorted;
+      latest = rows_latest text_order string_cmp_total register_order total-law have_one_key ties es es same sorted;
     })

@@ -8,7 +8,7 @@ use Rattle.sqlite_value.specs.Keys.{plain}
 use Rattle.sqlite_trees.specs.Tree.{Trees, IsAscending, IsIndex, insert_entry}
 use Rattle.sqlite_trees.proofs.TreeLemmas.{IsIndex-insert_entry}
 use Rattle.store_table.specs.Changes.{HasMore}
-use Rattle.store_table.specs.Entries.{HoldsEntries, entry_row, entry_order, with_rows}
+use Rattle.store_table.specs.Entries.{HoldsEntries, entry_row, entry_order, with_more_rows}
 use Rattle.store_table.specs.declared.register.Register.{Register}
 use Rattle.store_table.proofs.OrderOfEntries.{row_order, ascending_entries, ascending_rows}
 
@@ -46,7 +46,8 @@ module _ (e : Key × Register) where
   place (x ∷ es) = go (entry_order x e) refl (place es)
     where
       step : (o : Ordering) → entry_order x e ≡ o
-          → insert_entry plain (entry_row e) (map entry_row (x ∷ es)) ≡ match_ordering o (entry_row x ∷ insert_entry plain (entry_row e) (map entry_row es)) (map entry_row (x ∷ es)) (map entry_row (e ∷ x ∷ es))
+          → insert_entry plain (entry_row e) (map entry_row (x ∷ es)) ≡ match_ordering o (entry_row x ∷ insert_entry plain (entry_row e) (map entry_row es))
+          (map entry_row (x ∷ es)) (map entry_row (e ∷ x ∷ es))
       step o t = ap (λ r. match_ordering r (entry_row x ∷ insert_entry plain (entry_row e) (map entry_row es)) (map entry_row (x ∷ es)) (map entry_row (e ∷ x ∷ es))) (row_order x e ∙ t)
 
       behind : (all : List (Key × Register)) → IsPlaced e es all → IsPlaced e (x ∷ es) (x ∷ all)
@@ -78,15 +79,16 @@ AreInserted [] es all = all ≡ es
 AreInserted (e ∷ added) es all = (mid : List (Key × Register)) × IsInserted e es mid × AreInserted added mid all
 
 insert_all : (added es : List (Key × Register)) → IsAscending (λ a b. entry_order a b ≡ Less) es
-    → (all : List (Key × Register)) × (with_rows (map entry_row es) (map entry_row added) ≡ map entry_row all) × IsAscending (λ a b. entry_order a b ≡ Less) all × AreInserted added es all
+    → (all : List (Key × Register)) × (with_more_rows (map entry_row es) (map entry_row added) ≡ map entry_row all) × IsAscending (λ a b. entry_order a b ≡ Less) all × AreInserted added es all
 insert_all [] es up = (es, refl, up, refl)
 insert_all (e ∷ added) es up =
     let one = inserted e es in
     let more = insert_all added one.0 (one.1.ascending up) in
-    (more.0, ap (λ rows. with_rows rows (map entry_row added)) one.1.rows ∙ more.1, more.2, (one.0, one.1, more.3))
+    (more.0, ap (λ rows. with_more_rows rows (map entry_row added)) one.1.rows ∙ more.1, more.2, (one.0, one.1, more.3))
 
 -- trees that have the rows of these entries too hold the entries with these inserted
-pub holds_more : (old new : Trees) (es added : List (Key × Register)) → HoldsEntries old es → HasMore (map entry_row added) old new → (all : List (Key × Register)) × HoldsEntries new all × AreInserted added es all
+pub holds_more : (old new : Trees) (es added : List (Key × Register)) → HoldsEntries old es → HasMore (map entry_row added) old new
+    → (all : List (Key × Register)) × HoldsEntries new all × AreInserted added es all
 holds_more old new es added held has =
     let all = insert_all added es held.ascending in
-    (all.0, record { rows = has.entries ∙ ap (λ rows. with_rows rows (map entry_row added)) held.rows ∙ all.1; ascending = all.2 }, all.3)
+    (all.0, record { rows = has.entries ∙ ap (λ rows. with_more_rows rows (map entry_row added)) held.rows ∙ all.1; ascending = all.2 }, all.3)

@@ -18,7 +18,7 @@ use Rattle.sqlite_trees.proofs.ListLemmas.{all_weaker, ascending-filter, filter-
 use Rattle.sqlite_trees.proofs.TreeLemmas.{AtMost, IsSortedTree, prefix_cmp-one, prefix_cmp_follows, sorted_index, up_to_key-filter}
 use Rattle.store_table.specs.Entries.{entry_row, entry_row_of}
 use Rattle.store_table.specs.Latest.{rows_of}
-use Rattle.store_table.specs.Walks.{Gives}
+use Rattle.store_table.specs.Walks.{GivesRow}
 use Rattle.store_table.specs.declared.register.Register.{Register}
 use Rattle.key_order.specs.Text.{Text as Key}
 use Rattle.store_table.proofs.Ascending.{all-middle, ascending-middle}
@@ -83,21 +83,23 @@ module _ (key : List ℕ) (es : List Row) (up : IsIndex plain es) where
     pub other_sought : is_eq (value_cmp (column row 0) (Words key)) ≡ false → rows_of key es ≡ []
     other_sought of =
         let up_to : IsSortedTree plain (reverse left ++ row ∷ []) = subst (IsSortedTree plain) (sym is_front ∙ ends) (ascending-filter (AtMost plain) is_within es (sorted_index plain es up)) in
-        let within : AllByRecursion (λ r. is_within r ≡ true) (reverse left ++ row ∷ []) = subst (AllByRecursion (λ r. is_within r ≡ true)) (sym is_front ∙ ends) (recursion_from_All _ _ (filter_passes is_within es)) in
+        let within : AllByRecursion (λ r. is_within r ≡ true) (reverse left ++ row ∷ []) =
+        subst (AllByRecursion (λ r. is_within r ≡ true)) (sym is_front ∙ ends) (recursion_from_All _ _ (filter_passes is_within es)) in
         let low : is_lt (prefix_cmp plain row (Words key ∷ [])) ≡ true = below _ (all-middle _ (reverse left) row [] within) (ap is_eq (prefix_cmp-column row key) ∙ of) in
         let others = all_weaker (λ r. AtMost plain r row) (λ r. is_of r ≡ false)
-        (λ r most. ap is_eq (sym (prefix_cmp-column r key)) ∙ not_tied _ ((prefix_cmp_follows plain (Words key ∷ []) r row most).0 low)) (reverse left) (ascending-middle _ (reverse left) row [] up_to) in
+        (λ r most. ap is_eq (sym (prefix_cmp-column r key)) ∙ not_tied _ ((prefix_cmp_follows plain (Words key ∷ []) r row most).0 low)) (reverse left)
+        (ascending-middle _ (reverse left) row [] up_to) in
         rw (rows_end, filter_none is_of (reverse left) others, of) refl
 
 -- what a look back from a key finds is the last row of the key, where it is one of the key
-pub last_given : (key : List ℕ) (es : List Row) (bound row : Row) (found is : Bool) → bound ≡ Words key ∷ [] → IsIndex plain es → Gives (sought plain Backward bound es) row found
+pub last_given : (key : List ℕ) (es : List Row) (bound row : Row) (found is : Bool) → bound ≡ Words key ∷ [] → IsIndex plain es → GivesRow (sought plain Backward bound es) row found
     → found ≡ true → is ≡ is_eq (value_cmp (column row 0) (Words key)) → last_or None (rows_of key es) ≡ if◌then◌else◌ is (Some row) None
 last_given key es bound row false is start up gives so told = absurd (let k = so in cc)
 last_given key es bound row true true start up gives so told = last_sought key es up row gives.0 (rw start at gives.1) (sym told)
 last_given key es bound row true false start up gives so told = ap (last_or None) (other_sought key es up row gives.0 (rw start at gives.1) (sym told))
 
 -- where a look back from a key finds nothing, the key has no row
-pub none_given : (key : List ℕ) (es : List Row) (bound row : Row) (found : Bool) → bound ≡ Words key ∷ [] → IsIndex plain es → Gives (sought plain Backward bound es) row found
+pub none_given : (key : List ℕ) (es : List Row) (bound row : Row) (found : Bool) → bound ≡ Words key ∷ [] → IsIndex plain es → GivesRow (sought plain Backward bound es) row found
     → found ≡ false → last_or None (rows_of key es) ≡ None
 none_given key es bound row true start up gives so = absurd (let k = so in cc)
 none_given key es bound row false start up gives so = ap (last_or None) (none_sought key es up (rw start at gives))

@@ -17,7 +17,7 @@ use Rattle.sqlite_value.proofs.KeyLemmas.{entry_cmp-plain, entry_cmp_total}
 use Rattle.sqlite_value.proofs.OrderLemmas.{value_cmp-Int, value_cmp-Text, value_cmp-Blob, value_cmp-apart, then-Equal}
 use Rattle.sqlite_trees.specs.Tree.{IsAscending, IsIndex, insert_entry}
 use Rattle.sqlite_trees.proofs.ListLemmas.{all_weaker, ascending_weaker, ascending-map, ascending_from_map}
-use Rattle.store_table.specs.Entries.{value_of, entry_row, entry_order, with_rows}
+use Rattle.store_table.specs.Entries.{value_cell, entry_row, entry_order, with_more_rows}
 use Rattle.store_table.specs.Values.{value_order}
 use Rattle.store_table.specs.declared.register.Register.{Register}
 use Rattle.store_table.specs.declared.value.Value.{Value}
@@ -28,7 +28,7 @@ time_order : (m n : ℕ) → int_cmp (pos m) (pos n) ≡ nat_cmp m n
 time_order m n = grind (arith, nat_tests)
 
 -- the cells of what is said are ordered as SQLite orders them
-cell_order : (a b : Option Value) → value_cmp (value_of a) (value_of b) ≡ option_cmp value_order a b
+cell_order : (a b : Option Value) → value_cmp (value_cell a) (value_cell b) ≡ option_cmp value_order a b
 cell_order None None = value_cmp-Int (pos 0) (pos 0)
 cell_order None (Some (Text t)) = value_cmp-apart (Int (pos 0)) (Words (string_bytes t)) (λ same. omega (arith, same))
 cell_order None (Some (Bytes t)) = value_cmp-apart (Int (pos 0)) (Blob t.items) (λ same. omega (arith, same))
@@ -62,13 +62,13 @@ insert_last new [] below = refl
 insert_last new (row ∷ rows) below =
     ap (λ o. match_ordering o (row ∷ insert_entry plain new rows) (row ∷ rows) (new ∷ row ∷ rows)) below.0 ∙ ap (λ rest. row ∷ rest) (insert_last new rows below.1)
 
-with_rows-append : (front more : List Row) → IsIndex plain (front ++ more) → with_rows front more ≡ front ++ more
+with_rows-append : (front more : List Row) → IsIndex plain (front ++ more) → with_more_rows front more ≡ front ++ more
 with_rows-append front [] up = sym (append-nil front)
-with_rows-append front (row ∷ more) up = ap (λ rows. with_rows rows more) (insert_last row front (ascending-middle _ front row more up))
+with_rows-append front (row ∷ more) up = ap (λ rows. with_more_rows rows more) (insert_last row front (ascending-middle _ front row more up))
     ∙ with_rows-append (front ++ row ∷ []) more (subst (IsIndex plain) (sym (append_assoc front (row ∷ []) more)) up) ∙ append_assoc front (row ∷ []) more
 
 -- put where there are none, the rows of entries that ascend stay as they are
-pub with_ascending : (es : List (Key × Register)) → IsAscending (λ a b. entry_order a b ≡ Less) es → with_rows [] (map entry_row es) ≡ map entry_row es
+pub with_ascending : (es : List (Key × Register)) → IsAscending (λ a b. entry_order a b ≡ Less) es → with_more_rows [] (map entry_row es) ≡ map entry_row es
 with_ascending es up = with_rows-append [] (map entry_row es) (ascending_rows es up)
 
 first_below : (o p : Ordering) → is_lt o ≡ true → ordering_then o p ≡ Less

@@ -13,7 +13,7 @@ use Rattle.store_table.specs.declared.register.Register.{Register}
 use Rattle.store_table.specs.declared.reader.Walk.{Walk}
 use Rattle.store_table.specs.Entries.{entry_row, HoldsEntries}
 use Rattle.store_table.specs.Logs.{IsClean, IsSteady, LeavesNoMore, trees_of}
-use Rattle.store_table.specs.Reading.{Groups, Takes, EndsGroup, groups_in, with_entry, last_of, IsRead, IsAtEnd, IsWalked, ReadsOn, ReadsAll}
+use Rattle.store_table.specs.Reading.{Groups, TakesEntry, EndsGroup, groups_in, with_entry, last_of, IsRead, IsAtEnd, IsWalked, ReadsOn, ReadsAll}
 use Rattle.store_table.specs.Rows.{AreLatest, HasLatestRows}
 use Rattle.store_table.specs.Walks.{StaysBut}
 use Rattle.store_table.proofs.Grouping.{grouped_more, last_latest}
@@ -32,7 +32,7 @@ module _ {S : Type 0} (g : Ghosts S) where
   none_left row left h = let e = h in cc
 
   -- a call that takes a row reads one entry more
-  pub reads_on : (old new : S) (found : Option (Key × Register)) → (IsClean g new → Takes (g.view old) (g.view new) found) → IsSome ((g.view new).cursors 0)
+  pub reads_on : (old new : S) (found : Option (Key × Register)) → (IsClean g new → TakesEntry (g.view old) (g.view new) found) → IsSome ((g.view new).cursors 0)
       → (IsClean g new → StaysBut (g.view old) (g.view new)) → IsSteady g old new → LeavesNoMore g old new → ReadsOn g old new found
   reads_on old new found taken live same steady no_more start entries was = record {
     live = live;
@@ -45,7 +45,8 @@ module _ {S : Type 0} (g : Ghosts S) where
       early : IsClean g new → IsClean g old
       early clean = omega (arith, steady.clean, clean)
 
-      by : (found : Option (Key × Register)) → Takes (g.view old) (g.view new) found → (left : List Row) × ((g.view old).cursors 0 ≡ Some left) × (trees_of g start 0 ≡ map entry_row entries ++ left)
+      by : (found : Option (Key × Register)) → TakesEntry (g.view old) (g.view new) found → (left : List Row) × ((g.view old).cursors 0 ≡ Some left)
+          × (trees_of g start 0 ≡ map entry_row entries ++ left)
           → (left : List Row) × ((g.view new).cursors 0 ≡ Some left) × (trees_of g start 0 ≡ map entry_row (entries ++ cons_option found []) ++ left)
       by None took passed =
           let same = some_same passed.0 [] (sym passed.1 ∙ took.0) in
@@ -56,7 +57,8 @@ module _ {S : Type 0} (g : Ghosts S) where
           (took.0, took.2, passed.2 ∙ ap (λ left. map entry_row entries ++ left) same ∙ more)
 
   -- at its end a walk has read all entries
-  pub reads_all : (old new : S) → Takes (g.view old) (g.view new) None → IsClean g old → IsIndex plain (trees_of g old 0) → (start : S) (entries : List (Key × Register)) → IsRead g start old entries → HoldsEntries (trees_of g start) entries
+  pub reads_all : (old new : S) → TakesEntry (g.view old) (g.view new) None → IsClean g old → IsIndex plain (trees_of g old 0)
+      → (start : S) (entries : List (Key × Register)) → IsRead g start old entries → HoldsEntries (trees_of g start) entries
   reads_all old new took clean shaped start entries was =
       let passed = was.passed clean in
       let same = some_same passed.0 [] (sym passed.1 ∙ took.0) in
@@ -65,8 +67,9 @@ module _ {S : Type 0} (g : Ghosts S) where
       record { rows = rows; ascending = ascending_entries entries (subst (IsIndex plain) (ap (λ (t : Trees). t 0) trees ∙ rows) shaped) }
 
   -- an entry more, of the key that the walk is at or of the next
-  pub walks_on : (start old new : S) (before after : Walk) (given : List (Key × Register)) (entry : Key × Register) (ended : Option (Key × Register)) → IsSteady g old new → ReadsOn g old new (Some entry)
-      → (IsClean g new → Takes (g.view old) (g.view new) (Some entry)) → EndsGroup before.ahead after.ahead entry ended → after.count ≡ before.count + 1
+  pub walks_on : (start old new : S) (before after : Walk) (given : List (Key × Register)) (entry : Key × Register) (ended : Option (Key × Register))
+      → IsSteady g old new → ReadsOn g old new (Some entry)
+      → (IsClean g new → TakesEntry (g.view old) (g.view new) (Some entry)) → EndsGroup before.ahead after.ahead entry ended → after.count ≡ before.count + 1
       → IsWalked g start old before given → IsWalked g start new after (given ++ cons_option ended [])
   walks_on start old new before after given entry ended steady reads taken ends more was = record {
     seen = was.seen ++ entry ∷ [];
@@ -75,7 +78,8 @@ module _ {S : Type 0} (g : Ghosts S) where
     groups = λ clean. inl (by (taken clean) (was.groups (omega (arith, steady.clean, clean))));
   }
     where
-      by : Takes (g.view old) (g.view new) (Some entry) → (groups_in was.seen ≡ (given, before.ahead)) ⊎ IsAtEnd g start old before was.seen given → groups_in (was.seen ++ entry ∷ []) ≡ (given ++ cons_option ended [], after.ahead)
+      by : TakesEntry (g.view old) (g.view new) (Some entry) → (groups_in was.seen ≡ (given, before.ahead)) ⊎ IsAtEnd g start old before was.seen given
+          → groups_in (was.seen ++ entry ∷ []) ≡ (given ++ cons_option ended [], after.ahead)
       by took (inl is) = grouped_more was.seen entry ∙ ap (λ (s : Groups). with_entry s.0 s.1 entry) is ∙ ends given
       by took (inr end) = absurd (none_left (entry_row entry) took.0 (sym end.over ∙ took.1))
 
@@ -89,7 +93,7 @@ module _ {S : Type 0} (g : Ghosts S) where
 
   -- at the end the latest entry of the last key is handed out
   pub walks_out : (start old new : S) (before after : Walk) (given : List (Key × Register)) → IsSteady g old new → ReadsOn g old new None
-      → (IsClean g new → Takes (g.view old) (g.view new) None) → after.ahead ≡ None → after.count ≡ before.count
+      → (IsClean g new → TakesEntry (g.view old) (g.view new) None) → after.ahead ≡ None → after.count ≡ before.count
       → IsWalked g start old before given → IsWalked g start new after (given ++ cons_option before.ahead [])
   walks_out start old new before after given steady reads taken none same was = record {
     seen = was.seen;
@@ -103,7 +107,8 @@ module _ {S : Type 0} (g : Ghosts S) where
       → IsWalked g start old before given → HasLatestRows (trees_of g start) given × (before.count ≡ length (trees_of g start 0))
   walks_all start old new before given clean steady all none was =
       let held = all clean start was.seen was.read in
-      let is : given ≡ last_of (groups_in was.seen) = sym (append-nil given) ∙ ap (λ (o : Option (Key × Register)). given ++ cons_option o []) (sym none) ∙ handed_out start old before given was (omega (arith, steady.clean, clean)) in (
+      let is : given ≡ last_of (groups_in was.seen) = sym (append-nil given) ∙ ap (λ (o : Option (Key × Register)). given ++ cons_option o []) (sym none)
+      ∙ handed_out start old before given was (omega (arith, steady.clean, clean)) in (
         (was.seen, held, subst (AreLatest was.seen) (sym is) (last_latest was.seen held.ascending)),
         was.count ∙ sym (length-map was.seen entry_row) ∙ ap length (sym held.rows),
       )

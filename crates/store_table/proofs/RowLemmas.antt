@@ -51,7 +51,8 @@ module _ {K V : Type 0} (ck : K → K → Ordering) (ok : IsTotalOrder ck) (cv :
   key_down a b h = sym (turned ck ok b.0 a.0) ∙ not_less (ck a.0 b.0) (cv a.1 b.1) h
 
   keys_down : (k : K × V) (xs : List (K × V)) → All (Over k) xs → All (λ y. Upto ck y.0 k.0) (dedup_from same k xs)
-  keys_down k xs over = All-dedup same (λ y. Upto ck y.0 k.0) (k ∷ xs) (All-cons (λ y. Upto ck y.0 k.0) k xs (up_self ck ok k.0) (All-weaker (Over k) (λ y. Upto ck y.0 k.0) (λ y h. key_down k y h) xs over))
+  keys_down k xs over = All-dedup same (λ y. Upto ck y.0 k.0) (k ∷ xs)
+      (All-cons (λ y. Upto ck y.0 k.0) k xs (up_self ck ok k.0) (All-weaker (Over k) (λ y. Upto ck y.0 k.0) (λ y h. key_down k y h) xs over))
 
   -- a key that is at most k's, and isn't the same, is below it
   below_by : (x k : K × V) → Upto ck x.0 k.0 → same x k ≡ false → Below ck x.0 k.0
@@ -74,7 +75,11 @@ module _ {K V : Type 0} (ck : K → K → Ordering) (ok : IsTotalOrder ck) (cv :
       step true h past more = rw h past
       step false h past more =
           let lower = below_by x k (key_down k x (All-head (Over k) x xs over)) h in
-          rw h (recursion_from_All (λ s. Below ck s.0 k.0) (dedup_from same x xs) (All-weaker (λ y. Upto ck y.0 x.0) (λ s. Below ck s.0 k.0) (λ y up. up_low ck ok y.0 x.0 k.0 up lower) (dedup_from same x xs) (keys_down x xs down.0)), more)
+          rw h (
+            recursion_from_All (λ s. Below ck s.0 k.0) (dedup_from same x xs)
+                (All-weaker (λ y. Upto ck y.0 x.0) (λ s. Below ck s.0 k.0) (λ y up. up_low ck ok y.0 x.0 k.0 up lower) (dedup_from same x xs) (keys_down x xs down.0)),
+            more,
+          )
 
   -- the first stays
   first : (k : K × V) (xs : List (K × V)) (j : K) → Same ck k.0 j → get ck (dedup_from same k xs) j ≡ Some k.1
@@ -119,7 +124,8 @@ module _ {K V : Type 0} (ck : K → K → Ordering) (ok : IsTotalOrder ck) (cv :
           let D = dedup_from same x xs in
           let H = HasLatest (k ∷ D) in
           let lower = below_by x k (key_down k x (All-head (Over k) x xs over)) h in
-          let low : All (λ e. Below ck e.0 k.0) (x ∷ xs) = All-cons (λ e. Below ck e.0 k.0) x xs lower (All-weaker (Over x) (λ e. Below ck e.0 k.0) (λ e o. up_low ck ok e.0 x.0 k.0 (key_down x e o) lower) xs down.0) in
+          let low : All (λ e. Below ck e.0 k.0) (x ∷ xs) =
+          All-cons (λ e. Below ck e.0 k.0) x xs lower (All-weaker (Over x) (λ e. Below ck e.0 k.0) (λ e o. up_low ck ok e.0 x.0 k.0 (key_down x e o) lower) xs down.0) in
           rw h (All-cons H k (x ∷ xs) (here k D) (λ i d l. behind k D (get_or (x ∷ xs) i d) (low i d l) (more i d l)))
 
   -- of a list that falls, back to front
@@ -172,7 +178,9 @@ module _ {K V : Type 0} (ck : K → K → Ordering) (ok : IsTotalOrder ck) (cv :
   descends : (ys : List (K × V)) → Ascends ys → Descends (reverse ys)
   descends [] up = tt
   descends (y ∷ ys) up =
-      subst Descends (sym (back y ys)) (descends_snoc (reverse ys) y (descends ys (λ i j d le l. up (suc i) (suc j) d (omega arith) (omega arith))) (all_back (λ s. Over s y) ys (λ i d l. up 0 (suc i) d (omega arith) (omega arith))))
+      subst Descends (sym (back y ys))
+      (descends_snoc (reverse ys) y (descends ys (λ i j d le l. up (suc i) (suc j) d (omega arith) (omega arith)))
+      (all_back (λ s. Over s y) ys (λ i d l. up 0 (suc i) d (omega arith) (omega arith))))
 
   pairs_total : IsTotalOrder pair_order
   pairs_total = then_total (on_total (λ (p : K × V). p.0) ok) (on_total (λ (p : K × V). p.1) ov)
@@ -208,9 +216,12 @@ module _ {K V : Type 0} (ck : K → K → Ordering) (ok : IsTotalOrder ck) (cv :
 
     pub rows_taken : All (Contains entries) (reverse (kept (reverse sorted)))
     rows_taken =
-        all_back (Contains entries) (kept (reverse sorted)) (All-dedup same (Contains entries) (reverse sorted) (All-permutation (Contains entries) entries (reverse sorted) turned_round (All-contains_itself entries)))
+        all_back (Contains entries) (kept (reverse sorted))
+        (All-dedup same (Contains entries) (reverse sorted) (All-permutation (Contains entries) entries (reverse sorted) turned_round (All-contains_itself entries)))
 
     pub rows_latest : All (λ e. IsSomeAnd (get ck (reverse (kept (reverse sorted))) e.0) (λ v. is_lt (cv v e.1) ≡ false)) entries
     rows_latest =
         let all = All-permutation (HasLatest (kept (reverse sorted))) (reverse sorted) entries (IsPermutation-sym entries (reverse sorted) turned_round) (kept_covers (reverse sorted) down) in
-        All-weaker (HasLatest (kept (reverse sorted))) (HasLatest (reverse (kept (reverse sorted)))) (λ e h. subst (λ (o : Option V). IsSomeAnd o (λ v. is_lt (cv v e.1) ≡ false)) (sym (get_back (kept (reverse sorted)) e.0 (kept_falls (reverse sorted) down))) h) entries all
+        All-weaker (HasLatest (kept (reverse sorted))) (HasLatest (reverse (kept (reverse sorted))))
+        (λ e h. subst (λ (o : Option V). IsSomeAnd o (λ v. is_lt (cv v e.1) ≡ false))
+        (sym (get_back (kept (reverse sorted)) e.0 (kept_falls (reverse sorted) down))) h) entries all

@@ -10,7 +10,7 @@ use Rattle.sqlite_trees.specs.Tree.{from_key, order_of, sought}
 use Rattle.sqlite_trees.specs.View.{View, KeepsSchema, KeepsCommitted, OnlyWrites, Advances, with_cursor}
 use Rattle.store_table.specs.Logs.{HasTables, IsClean, IsOpen, IsSteady, LeavesNoMore}
 use Rattle.store_table.specs.Transactions.{StaysQuiet, CommitsNothing}
-use Rattle.store_table.specs.Walks.{Gives, StaysBut}
+use Rattle.store_table.specs.Walks.{GivesRow, StaysBut}
 
 -- a walk from no key on has all rows to give
 pub from_none : (rows : List Row) → from_key plain [] rows ≡ rows
@@ -20,7 +20,7 @@ from_none (row ∷ rows) = refl
 some_same : {X : Type 0} {x y : X} → Some x ≡ Some y → x ≡ y
 some_same h = let e = h in cc
 
-pub gives_none : (rows : List Row) (row : Row) (found : Bool) → found ≡ false → Gives rows row found → rows ≡ []
+pub gives_none : (rows : List Row) (row : Row) (found : Bool) → found ≡ false → GivesRow rows row found → rows ≡ []
 gives_none rows row true is h = absurd (let k = is in cc)
 gives_none rows row false is h = h
 
@@ -78,7 +78,8 @@ abbrev pub Passes : List Row → List Row → View → Type 0
 Passes rows seen v = (left : List Row) × (v.cursors 0 ≡ Some left) × (rows ≡ seen ++ left)
 
 -- after a seek from no key on, the cursor has all rows of a tree to give
-pub sought_all : (a b : View) (tree : ℕ) (key : Row) → order_of (a.shape tree) ≡ plain → key ≡ [] → b ≡ with_cursor a 0 (sought (order_of (a.shape tree)) Forward key (a.trees tree)) → Passes (a.trees tree) [] b
+pub sought_all : (a b : View) (tree : ℕ) (key : Row) → order_of (a.shape tree) ≡ plain → key ≡ []
+    → b ≡ with_cursor a 0 (sought (order_of (a.shape tree)) Forward key (a.trees tree)) → Passes (a.trees tree) [] b
 sought_all a b tree key order start is = (a.trees tree, rw (is, order, start) (ap Some (from_none (a.trees tree))), refl)
 
 pub given_more : (rows seen more : List Row) (row : Row) (found : Bool) (a b : View) → found ≡ true → Passes rows seen a → Advances a b 0 row found → more ≡ seen ++ row ∷ [] → Passes rows more b

@@ -16,6 +16,7 @@ leaves_over g old mid new key found writer now value latest same steady no_more 
     first : IsClean g mid → IsClean g old
     first clean = omega (arith, steady.clean, clean)
 
-    by : (IsClean g mid × HasWriteOver key found writer now value (trees_of g mid) trees) ⊎ g.recovers mid trees → (IsClean g old × WritesOver key writer now value (trees_of g old) trees) ⊎ g.recovers old trees
+    by : (IsClean g mid × HasWriteOver key found writer now value (trees_of g mid) trees) ⊎ g.recovers mid trees
+        → (IsClean g old × WritesOver key writer now value (trees_of g old) trees) ⊎ g.recovers old trees
     by (inl at) = inl (first at.0, (found, latest at.0, subst (λ t. HasWriteOver key found writer now value t trees) (same at.0) at.1))
     by (inr r) = inr (no_more trees r)

@@ -3,7 +3,7 @@ use Rattle.std.specs.Prelude.{◌≡◌, [], ◌∷◌, List, ℕ, ℤ, map}
 use Rattle.key_order.specs.Text.{Text as Key}
 use Rattle.sqlite_value.specs.Order.{Row}
 use Rattle.sqlite_trees.specs.Tree.{Trees, put_row}
-use Rattle.store_table.specs.Entries.{entry_row, entry_row_of, note_row, with_rows, IsNoted}
+use Rattle.store_table.specs.Entries.{entry_row, entry_row_of, note_row, with_more_rows, IsNoted}
 use Rattle.store_table.specs.declared.register.Register.{Register}
 
 -- no entry, and nothing noted
@@ -28,12 +28,12 @@ pub record HasNoteMore (format : ℤ) (writer hash_key : List ℕ) (old new : Tr
 module _ (rows : List Row) (old new : Trees) where
   -- the table of entries has these rows too, and nothing else has changed
   pub record HasMore : Type 0 where
-    pub entries : new 0 ≡ with_rows (old 0) rows
+    pub entries : new 0 ≡ with_more_rows (old 0) rows
     pub about : new 1 ≡ old 1
 
   -- the table of entries has these rows in place of its own, and nothing else has changed
   pub record HasInstead : Type 0 where
-    pub entries : new 0 ≡ with_rows [] rows
+    pub entries : new 0 ≡ with_more_rows [] rows
     pub about : new 1 ≡ old 1
 
 -- the table of entries has this register under the key too, and nothing else has changed

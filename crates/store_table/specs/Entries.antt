@@ -15,14 +15,14 @@ use Rattle.store_table.specs.declared.value.Value.{Value}
 use Rattle.store_table.specs.declared.value.Value.TheVariants.{Text, Bytes}
 
 -- a text, other bytes as a BLOB, or 0 where the key was removed
-abbrev pub value_of : Option Value → Cell
-value_of None = Int (pos 0)
-value_of (Some (Text text)) = Words (string_bytes text)
-value_of (Some (Bytes bytes)) = Blob bytes.items
+abbrev pub value_cell : Option Value → Cell
+value_cell None = Int (pos 0)
+value_cell (Some (Text text)) = Words (string_bytes text)
+value_cell (Some (Bytes bytes)) = Blob bytes.items
 
 -- an entry as a row: the bytes of the key, the time, the writer and the value
 abbrev pub entry_row_of : List ℕ → Register → Row
-entry_row_of key r = Words key ∷ Int (pos r.time) ∷ Words (string_bytes r.writer) ∷ value_of r.value ∷ []
+entry_row_of key r = Words key ∷ Int (pos r.time) ∷ Words (string_bytes r.writer) ∷ value_cell r.value ∷ []
 
 abbrev pub entry_row : Key × Register → Row
 entry_row e = entry_row_of (string_bytes e.0) e.1
@@ -37,8 +37,8 @@ pub record HoldsEntries (trees : Trees) (entries : List (Key × Register)) : Typ
   pub ascending : IsAscending (λ a b. entry_order a b ≡ Less) entries
 
 -- rows with more at their places, where one that is there already stays as it is
-abbrev pub with_rows : List Row → List Row → List Row
-with_rows rows more = fold (λ all row. insert_entry plain row all) rows more
+abbrev pub with_more_rows : List Row → List Row → List Row
+with_more_rows rows more = fold (λ all row. insert_entry plain row all) rows more
 
 -- the row that notes the format, the writer and the hash key
 abbrev pub note_row : ℤ → List ℕ → List ℕ → Row

@@ -7,15 +7,15 @@ use Rattle.sqlite_trees.specs.declared.store.Store.{Ghosts}
 use Rattle.sqlite_trees.specs.View.{View}
 use Rattle.store_table.specs.Entries.{entry_row, HoldsEntries}
 use Rattle.store_table.specs.Logs.{IsClean, IsSteady, LeavesNoMore, trees_of}
-use Rattle.store_table.specs.Rows.{same_key, HasLatestRows}
+use Rattle.store_table.specs.Rows.{have_one_key, HasLatestRows}
 use Rattle.store_table.specs.Walks.{StaysBut}
 use Rattle.store_table.specs.declared.reader.Walk.{Walk}
 use Rattle.store_table.specs.declared.register.Register.{Register}
 
 -- the cursor gave the row of this entry, or was at its end
-abbrev pub Takes : View → View → Option (Key × Register) → Type 0
-Takes old new None = (old.cursors 0 ≡ Some []) × (new.cursors 0 ≡ Some [])
-Takes old new (Some entry) = (left : List Row) × (old.cursors 0 ≡ Some (entry_row entry ∷ left)) × (new.cursors 0 ≡ Some left)
+abbrev pub TakesEntry : View → View → Option (Key × Register) → Type 0
+TakesEntry old new None = (old.cursors 0 ≡ Some []) × (new.cursors 0 ≡ Some [])
+TakesEntry old new (Some entry) = (left : List Row) × (old.cursors 0 ≡ Some (entry_row entry ∷ left)) × (new.cursors 0 ≡ Some left)
 
 -- the last entry of each key but the last one, and that of the last key
 abbrev pub Groups : Type 0
@@ -24,7 +24,7 @@ Groups = List (Key × Register) × Option (Key × Register)
 -- an entry after the others, of the last key or of another
 abbrev pub with_entry : List (Key × Register) → Option (Key × Register) → Key × Register → Groups
 with_entry given None entry = (given, Some entry)
-with_entry given (Some last) entry = if same_key last entry then (given, Some entry) else (given ++ last ∷ [], Some entry)
+with_entry given (Some last) entry = if have_one_key last entry then (given, Some entry) else (given ++ last ∷ [], Some entry)
 
 -- the groups of entries that ascend
 abbrev pub groups_in : List (Key × Register) → Groups

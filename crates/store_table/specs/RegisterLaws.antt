@@ -6,7 +6,7 @@ use Rattle.std.specs.Cmp.Lexicographic.{same_text, pointwise}
 use Rattle.std.proofs.lemmas.Bool.{eqb-true, and_parts}
 use Rattle.key_order.specs.Text.{Text}
 use Rattle.store_table.specs.RegisterBytes.{register_bytes, value_bytes}
-use Rattle.store_table.specs.Values.{bytes_of, mark_of, value_eq}
+use Rattle.store_table.specs.Values.{bytes_of_value, kind_mark, value_eq}
 use Rattle.store_table.specs.declared.register.Register.{Register}
 use Rattle.store_table.specs.declared.value.Value.{Value}
 
@@ -18,8 +18,8 @@ same_value None None h = refl
 same_value None (Some b) h = absurd (let e = h in cc)
 same_value (Some a) None h = absurd (let e = h in cc)
 same_value (Some a) (Some b) h =
-    let (kind, bytes) = and_parts (nat_eq (mark_of a) (mark_of b)) (pointwise nat_eq (bytes_of a) (bytes_of b)) h in
-    ap₂ (λ (mark : ℕ) (text : List ℕ). mark ∷ text) (eqb-true (mark_of a) (mark_of b) kind) (same_text (bytes_of a) (bytes_of b) (sym bytes))
+    let (kind, bytes) = and_parts (nat_eq (kind_mark a) (kind_mark b)) (pointwise nat_eq (bytes_of_value a) (bytes_of_value b)) h in
+    ap₂ (λ (mark : ℕ) (text : List ℕ). mark ∷ text) (eqb-true (kind_mark a) (kind_mark b) kind) (same_text (bytes_of_value a) (bytes_of_value b) (sym bytes))
 
 pub same_bytes : (a b : Register) → nat_eq a.time b.time && (text_eq a.writer b.writer && option_eq value_eq a.value b.value) ≡ true → register_bytes a ≡ register_bytes b
 same_bytes a b h =

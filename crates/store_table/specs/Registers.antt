@@ -5,7 +5,7 @@ use Rattle.std.specs.Option.{option_cmp}
 use Rattle.std.specs.Ordering.{is_lt, nat_cmp, ordering_then}
 use Rattle.key_order.specs.Text.{Text, text_order}
 use Rattle.key_order.specs.Map.{get}
-use Rattle.store_table.specs.Values.{bytes_of, value_order}
+use Rattle.store_table.specs.Values.{bytes_of_value, value_order}
 use Rattle.store_table.specs.declared.register.Register.{Register}
 
 -- the time of a write over a register: the clock's, or one more than the register's, whichever is later
@@ -27,7 +27,7 @@ HaveLateTime entries = Any (λ entry. 2 ^ 63 ≤ entry.1.time) entries
 
 -- the bytes of a key's value, where it is there and not removed
 abbrev pub bytes_at : List (Text × Register) → Text → Option (List ℕ)
-bytes_at rows key = option_and_then (λ r. option_map bytes_of r.value) (get text_order rows key)
+bytes_at rows key = option_and_then (λ r. option_map bytes_of_value r.value) (get text_order rows key)
 
 -- by the time, then by the writer, then by the value, of which a removal is the least
 abbrev pub register_order : Register → Register → Ordering

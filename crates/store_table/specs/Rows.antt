@@ -26,8 +26,8 @@ abbrev pub HasLateRow : Trees → Type 0
 HasLateRow trees = (rows : List (Key × Register)) × HasLatestRows trees rows × HaveLateTime rows
 
 -- whether two rows have one key
-abbrev pub same_key : Key × Register → Key × Register → Bool
-same_key a b = pointwise nat_eq (string_bytes a.0) (string_bytes b.0)
+abbrev pub have_one_key : Key × Register → Key × Register → Bool
+have_one_key a b = pointwise nat_eq (string_bytes a.0) (string_bytes b.0)
 
 -- whether a row says a value
 abbrev pub says_value : Key × Register → Bool

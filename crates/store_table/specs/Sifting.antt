@@ -4,7 +4,7 @@ use Rattle.key_order.specs.Text.{Text as Key}
 use Rattle.sqlite_value.specs.Order.{Row}
 use Rattle.sqlite_value.specs.declared.value.Value.{Value as Cell}
 use Rattle.sqlite_value.specs.declared.value.Value.TheVariants.{Text as Words}
-use Rattle.store_table.specs.Entries.{entry_row, value_of}
+use Rattle.store_table.specs.Entries.{entry_row, value_cell}
 use Rattle.store_table.specs.Values.{IsFormed}
 use Rattle.store_table.specs.declared.register.Register.{Register}
 use Rattle.store_table.specs.declared.value.Value.{Value}
@@ -53,4 +53,4 @@ IsNoText cell = (text : List ℕ) → IsUtf8 text → cell ≢ Words text
 
 -- a cell is neither that of a value in its one form nor what stands for a removal
 abbrev pub IsNoValue : Cell → Type 0
-IsNoValue cell = (said : Option Value) → IfSome said IsFormed → cell ≢ value_of said
+IsNoValue cell = (said : Option Value) → IfSome said IsFormed → cell ≢ value_cell said

@@ -7,14 +7,14 @@ use Rattle.store_table.specs.declared.value.Value.{Value}
 use Rattle.store_table.specs.declared.value.Value.TheVariants.{Text, Bytes}
 
 -- the bytes of a value
-abbrev pub bytes_of : Value → List ℕ
-bytes_of (Text text) = string_bytes text
-bytes_of (Bytes bytes) = bytes.items
+abbrev pub bytes_of_value : Value → List ℕ
+bytes_of_value (Text text) = string_bytes text
+bytes_of_value (Bytes bytes) = bytes.items
 
 -- the mark of its kind: 1 of a text, 2 of other bytes
-abbrev pub mark_of : Value → ℕ
-mark_of (Text text) = 1
-mark_of (Bytes bytes) = 2
+abbrev pub kind_mark : Value → ℕ
+kind_mark (Text text) = 1
+kind_mark (Bytes bytes) = 2
 
 -- a value is in the one form of its bytes: a text, or bytes that aren't UTF-8
 abbrev pub IsFormed : Value → Type 0
@@ -23,13 +23,13 @@ IsFormed (Bytes bytes) = ¬ (IsUtf8 bytes.items)
 
 -- the value of these bytes
 pub record IsValueOf (bytes : List ℕ) (value : Value) : Type 0 where
-  pub same : bytes_of value ≡ bytes
+  pub same : bytes_of_value value ≡ bytes
   pub formed : IsFormed value
 
 -- equal are values of one kind with the same bytes
 abbrev pub value_eq : Value → Value → Bool
-value_eq = eq_of_both (on mark_of nat_eq) (on bytes_of (pointwise nat_eq))
+value_eq = eq_of_both (on kind_mark nat_eq) (on bytes_of_value (pointwise nat_eq))
 
 -- by the kind, a text first, then by the bytes
 abbrev pub value_order : Value → Value → Ordering
-value_order = then_cmp (on mark_of nat_cmp) (on bytes_of (slice_cmp nat_cmp))
+value_order = then_cmp (on kind_mark nat_cmp) (on bytes_of_value (slice_cmp nat_cmp))

@@ -9,13 +9,13 @@ use Rattle.sqlite_trees.specs.View.{View}
 use Rattle.store_table.specs.Logs.{IsClean}
 
 -- the first of the rows, or that there is none
-abbrev pub Gives : List Row → Row → Bool → Type 0
-Gives rows row true = (left : List Row) × (rows ≡ row ∷ left)
-Gives rows row false = rows ≡ []
+abbrev pub GivesRow : List Row → Row → Bool → Type 0
+GivesRow rows row true = (left : List Row) × (rows ≡ row ∷ left)
+GivesRow rows row false = rows ≡ []
 
 -- this is the first row that a seek of the key gives in the table of entries, or there is none
 abbrev pub IsSought : Trees → Row → Direction → Row → Bool → Type 0
-IsSought trees key direction row found = Gives (sought plain direction key (trees 0)) row found
+IsSought trees key direction row found = GivesRow (sought plain direction key (trees 0)) row found
 
 -- only cursors may have moved
 abbrev pub StaysBut : View → View → Type 0

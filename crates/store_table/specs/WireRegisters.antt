@@ -8,7 +8,7 @@ use Rattle.key_order.specs.Text.{Text}
 use Rattle.merkle_bytes.specs.Counts.{count_bytes, count_some}
 use Rattle.merkle_bytes.specs.Encodings.{string_encoding}
 use Rattle.merkle_bytes.specs.Telling.{text_told, number_told, pair_some, pair_told}
-use Rattle.store_table.specs.Values.{bytes_of, mark_of, value_eq, IsFormed}
+use Rattle.store_table.specs.Values.{bytes_of_value, kind_mark, value_eq, IsFormed}
 use Rattle.store_table.specs.declared.register.Register.{Register}
 use Rattle.store_table.specs.declared.value.Value.{Value}
 use Rattle.store_table.specs.declared.value.Value.TheVariants as form
@@ -22,7 +22,7 @@ text_eq a b = pointwise nat_eq (string_bytes a) (string_bytes b)
 -- a byte 0 of a removal, or the mark of the value's kind and its bytes, as many as there are
 abbrev pub said_encoding : Option Value → List ℕ
 said_encoding None = 0 ∷ []
-said_encoding (Some value) = mark_of value ∷ string_encoding (bytes_of value)
+said_encoding (Some value) = kind_mark value ∷ string_encoding (bytes_of_value value)
 
 -- a removal, or a value in its one form
 abbrev pub IsSaid : Option Value → Type 0
@@ -51,24 +51,24 @@ one_text_told : (a b : Text) (r s : List ℕ) → text_bytes a ++ r ≡ text_byt
 one_text_told a b r s e = text_told (string_bytes a) (string_bytes b) r s e
 
 -- a mark is no 0
-no_mark : (value : Value) (xs ys : List ℕ) → 0 ∷ xs ≡ mark_of value ∷ ys → ⊥
+no_mark : (value : Value) (xs ys : List ℕ) → 0 ∷ xs ≡ kind_mark value ∷ ys → ⊥
 no_mark (form.Text text) xs ys e = let k = e in cc
 no_mark (form.Bytes bytes) xs ys e = let k = e in cc
 
-value_told : (a b : Value) (r s : List ℕ) → mark_of a ∷ (string_encoding (bytes_of a) ++ r) ≡ mark_of b ∷ (string_encoding (bytes_of b) ++ s) → (value_eq a b ≡ true) × (r ≡ s)
+value_told : (a b : Value) (r s : List ℕ) → kind_mark a ∷ (string_encoding (bytes_of_value a) ++ r) ≡ kind_mark b ∷ (string_encoding (bytes_of_value b) ++ s) → (value_eq a b ≡ true) × (r ≡ s)
 value_told a b r s e =
-    let kind : mark_of a ≡ mark_of b = cc in
-    let rest : string_encoding (bytes_of a) ++ r ≡ string_encoding (bytes_of b) ++ s = cc in
-    let told = text_told (bytes_of a) (bytes_of b) r s rest in
-    (ap₂ (λ x y. x && y) (eq-eqb (mark_of a) (mark_of b) kind) told.0, told.1)
+    let kind : kind_mark a ≡ kind_mark b = cc in
+    let rest : string_encoding (bytes_of_value a) ++ r ≡ string_encoding (bytes_of_value b) ++ s = cc in
+    let told = text_told (bytes_of_value a) (bytes_of_value b) r s rest in
+    (ap₂ (λ x y. x && y) (eq-eqb (kind_mark a) (kind_mark b) kind) told.0, told.1)
 
 -- bytes that begin with those of what is said tell it, and where it ends
 pub said_told : (a b : Option Value) (r s : List ℕ) → said_encoding a ++ r ≡ said_encoding b ++ s → (option_eq value_eq a b ≡ true) × (r ≡ s)
 said_told None None r s e =
     let flat : 0 ∷ r ≡ 0 ∷ s = e in
     (refl, cc)
-said_told None (Some b) r s e = absurd (no_mark b r (string_encoding (bytes_of b) ++ s) e)
-said_told (Some a) None r s e = absurd (no_mark a s (string_encoding (bytes_of a) ++ r) (sym e))
+said_told None (Some b) r s e = absurd (no_mark b r (string_encoding (bytes_of_value b) ++ s) e)
+said_told (Some a) None r s e = absurd (no_mark a s (string_encoding (bytes_of_value a) ++ r) (sym e))
 said_told (Some a) (Some b) r s e = value_told a b r s e
 
 -- bytes that begin with those of a register tell it, and where it ends

@@ -2,7 +2,7 @@
 ghost use Rattle.std.specs.Prelude.{◌≡◌, ◌≢◌, ◌≤◌, ◌^◌, ◌++◌, ◌∷◌, [], ℕ, pos, string_bytes, IfOk, IfErr, IfSome, OnOk, IsErrOf, IsUtf8};
 ghost use Rattle.sqlite_value.specs.Value.{owned};
 ghost use Rattle.sqlite_value.specs.declared.value.Value.TheVariants.{Int, Text};
-ghost use Rattle.store_table.specs.Entries.{entry_row, entry_row_of, value_of};
+ghost use Rattle.store_table.specs.Entries.{entry_row, entry_row_of, value_cell};
 ghost use Rattle.store_table.specs.Faults.{IsFailure, IsUnwritten};
 ghost use Rattle.store_table.specs.Sifting.{IsNoEntry, IsNoText, IsNoValue};
 ghost use Rattle.store_table.specs.Values.{IsFormed};
@@ -30,7 +30,7 @@ fn stored_time(register: &Register) -> Result<i64, StoreFault>
 
 /// A text, other bytes as a BLOB, or 0 for a removal.
 fn stored_value(value: &Option<Value>) -> ValueRef<'_>
-    ensures { owned result ≡ value_of value.now }
+    ensures { owned result ≡ value_cell value.now }
 {
     match value {
         Some(Value::Text(text)) => ValueRef::Text(text.as_bytes()),
@@ -99,7 +99,7 @@ fn bytes_in(alloc: Global, bytes: &[u8]) -> Result<Vec<u8>, StoreFault>
 
 /// A value, or that the key was removed. A BLOB in UTF-8 is neither: as a value it would be a text.
 fn value_in(alloc: Global, value: ValueRef<'_>) -> Result<Option<Value>, StoreFault>
-    ensures value { IfOk result (λ said. owned value.entry ≡ value_of said) }
+    ensures value { IfOk result (λ said. owned value.entry ≡ value_cell said) }
     ensures formed { IfOk result (λ said. IfSome said IsFormed) }
     ensures none { IsErrOf result StoreFault.Malformed → IsNoValue (owned value.entry) }
     ensures failed { IfErr result IsFailure }

@@ -2,7 +2,7 @@
 ghost use Rattle.std.specs.Prelude.{◌≡◌, ◌+◌, [], None, IsSome, IfOk, IfErr, OnOk};
 ghost use Rattle.store_table.specs.Faults.{IsFailure};
 ghost use Rattle.store_table.specs.Logs.{HasTables, IsClean, IsSteady, StaysInErr, LeavesNoMore};
-ghost use Rattle.store_table.specs.Reading.{Takes, EndsGroup, IsWalked, ReadsOn, ReadsAll, WalksOn, WalksAll};
+ghost use Rattle.store_table.specs.Reading.{TakesEntry, EndsGroup, IsWalked, ReadsOn, ReadsAll, WalksOn, WalksAll};
 ghost use Rattle.store_table.specs.Transactions.{CommitsNothing};
 ghost use Rattle.store_table.specs.Walks.{StaysBut, WasSound, GivesAll, MakesView, MakesViewAndFinds};
 
@@ -76,7 +76,7 @@ fn take_entry<S: Store>(
     row: &mut Row,
 ) -> Result<Option<(String, Register)>, StoreFault>
     requires live { IsSome ((S.Store.view trees.old).cursors 0) }
-    ensures taken { MakesViewAndFinds S.Store trees.old trees.new result Takes }
+    ensures taken { MakesViewAndFinds S.Store trees.old trees.new result TakesEntry }
     ensures live { OnOk result (IsSome ((S.Store.view trees.new).cursors 0)) }
     ensures failed { IfErr result IsFailure }
     ensures same { MakesView S.Store trees.old trees.new result StaysBut }
@@ -96,7 +96,7 @@ fn next_entry<S: Store>(
     row: &mut Row,
 ) -> Result<Option<(String, Register)>, StoreFault>
     requires live { IsSome ((S.Store.view log.old).cursors 0) }
-    ensures taken { MakesViewAndFinds S.Store log.old log.new result Takes }
+    ensures taken { MakesViewAndFinds S.Store log.old log.new result TakesEntry }
     ensures read { IfOk result (λ found. ReadsOn S.Store log.old log.new found) }
     ensures all { IfOk result (λ found. found ≡ None → ReadsAll S.Store log.old log.new) }
     ensures failed { IfErr result IsFailure }

@@ -5,7 +5,7 @@ ghost use Rattle.std.specs.Cmp.Lexicographic.{pointwise, slice_cmp};
 ghost use Rattle.std.specs.Cmp.Rules.{comparing};
 ghost use Rattle.std.specs.Ordering.{nat_cmp, on, then_cmp, eq_of_both, as_partial_cmp};
 ghost use Rattle.std.proofs.Common.{rules};
-ghost use Rattle.store_table.specs.Values.{bytes_of, mark_of, value_eq, IsValueOf};
+ghost use Rattle.store_table.specs.Values.{bytes_of_value, kind_mark, value_eq, IsValueOf};
 
 use std::alloc::AllocError;
 use std::cmp::Ordering;
@@ -33,7 +33,7 @@ impl Value {
 
     /// Its bytes.
     pub fn as_bytes(&self) -> &[u8]
-        ensures { result.now ≡ bytes_of self.now }
+        ensures { result.now ≡ bytes_of_value self.now }
     {
         match self {
             Value::Text(text) => text.as_bytes(),
@@ -43,7 +43,7 @@ impl Value {
 
     /// What is before its bytes in a message, and in what is hashed: 1 for a text, 2 for other bytes.
     pub(crate) fn mark(&self) -> u8
-        ensures { result ≡ mark_of self.now }
+        ensures { result ≡ kind_mark self.now }
     {
         match self {
             Value::Text(_) => 1,
@@ -66,7 +66,7 @@ impl Clone for Value {
 
 // (equality and order are written out, so that definitions can name them)
 impl PartialEq for Value {
-    ghost eq = { eq_of_both (on mark_of nat_eq) (on bytes_of (pointwise nat_eq)) };
+    ghost eq = { eq_of_both (on kind_mark nat_eq) (on bytes_of_value (pointwise nat_eq)) };
 
     ghost laws = { Prim.search (comparing, rules) };
 
@@ -80,7 +80,7 @@ impl Eq for Value {
 }
 
 impl Ord for Value {
-    ghost cmp = { then_cmp (on mark_of nat_cmp) (on bytes_of (slice_cmp nat_cmp)) };
+    ghost cmp = { then_cmp (on kind_mark nat_cmp) (on bytes_of_value (slice_cmp nat_cmp)) };
 
     ghost total = { Prim.search (comparing, rules) };
 
@@ -95,7 +95,7 @@ impl Ord for Value {
 }
 
 impl PartialOrd for Value {
-    ghost partial_cmp = { as_partial_cmp (then_cmp (on mark_of nat_cmp) (on bytes_of (slice_cmp nat_cmp))) };
+    ghost partial_cmp = { as_partial_cmp (then_cmp (on kind_mark nat_cmp) (on bytes_of_value (slice_cmp nat_cmp))) };
 
     ghost laws = { partial_order_from_own_ties (Prim.search (comparing, rules)) (Prim.search (comparing, rules)) };
 

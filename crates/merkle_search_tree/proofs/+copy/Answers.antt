@@ -25,6 +25,7 @@ page::PageOf::copied-nodes-preserved g t c =
     let copy = c.in_ok-copied.field-0 in
     let within : c.nodes.i < length es = omega (arith, c.nodes-test.true, c.len-i-end.ensures, c.self.inside.nodes.ok.0) in
     let zip = AllZip-push R (take c.nodes.i es) c.nodes.nodes.items x copy c.nodes.invariant c.in_ok-copied.ensures in
-    let more : take c.nodes.i es ++ x ∷ [] ≡ take (c.nodes.i + 1) es = ap (λ (y : Node g.row.K.Denot g.row.D.Denot). take c.nodes.i es ++ y ∷ []) c.index-node.ensures ∙ sym (take_more es c.nodes.i x within) in
+    let more : take c.nodes.i es ++ x ∷ [] ≡ take (c.nodes.i + 1) es =
+    ap (λ (y : Node g.row.K.Denot g.row.D.Denot). take c.nodes.i es ++ y ∷ []) c.index-node.ensures ∙ sym (take_more es c.nodes.i x within) in
     subst (λ (ys : List (Node g.row.K.Denot g.row.D.Denot)). AllZip R (take (c.nodes.i + 1) es) ys) (sym c.in_ok-push.ensures.items)
     (subst (λ (xs : List (Node g.row.K.Denot g.row.D.Denot)). AllZip R xs (c.nodes.nodes.items ++ copy ∷ [])) more zip)

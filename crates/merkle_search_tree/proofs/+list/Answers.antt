@@ -26,7 +26,8 @@ page::PageOf::list_ranges-list_below-requires g t c κs within =
     let falls = subst (λ (p : Tree g.row.K.Denot g.row.D.Denot). LevelsFall p) (sym c.self.view_is) c.requires in
     let r : i < length es = omega (arith, c.nodes-test.true, ap length c.deref-node-items.ensures.value) in
     let is = c.node.view_is ∙ c.node-item.is ∙ ap (λ ys. get_or ys i x) c.deref-node-items.ensures.value in
-    let held : HeldFalls s.level (held_of c.node.inside.lt_pointer) = subst (λ (e : Node g.row.K.Denot g.row.D.Denot). HeldFalls s.level e.lt) (sym is) (at-falls s.level es (held_of s.high_page) i x r falls) in
+    let held : HeldFalls s.level (held_of c.node.inside.lt_pointer) =
+    subst (λ (e : Node g.row.K.Denot g.row.D.Denot). HeldFalls s.level e.lt) (sym is) (at-falls s.level es (held_of s.high_page) i x r falls) in
     let small = size_at es (held_of s.high_page) i x r in
     let same : held_size (held_of c.node.inside.lt_pointer) ≡ held_size (get_or es i x).lt = ap (λ (e : Node g.row.K.Denot g.row.D.Denot). held_size e.lt) is in
     let whole : row_size (row es (held_of s.high_page)) + 1 ≡ tree_size c.args.self.now = omega (arith, ap tree_size c.self.view_is) in
@@ -49,7 +50,8 @@ page::PageOf::list_ranges-returns g t c =
     let all = ap (flat_map (node_cached cmp)) (take_all c.nodes.node-index c.deref-node-items.result.now c.nodes-test.false ∙ c.deref-node-items.ensures.value) in
     let high = held_cached cmp (held_of s.high_page) in
     on_ok_map c.list_below-2.result _ _
-    (λ e. e ∙ ap (λ w. w ++ high) (c.nodes.invariant ∙ (λ i. c.in_ok-list_own.ensures i ++ all i)) ∙ regroup old (as_list (range_of cmp c.args.self.now)) (flat_map (node_cached cmp) s.nodes.items) high
+    (λ e. e ∙ ap (λ w. w ++ high) (c.nodes.invariant ∙ (λ i. c.in_ok-list_own.ensures i ++ all i))
+    ∙ regroup old (as_list (range_of cmp c.args.self.now)) (flat_map (node_cached cmp) s.nodes.items) high
     ∙ ap (λ w. old ++ (as_list (range_of cmp c.args.self.now) ++ w)) (sym (row_cached-row cmp s.nodes.items (held_of s.high_page)))
     ∙ ap (λ (w : Tree g.row.K.Denot g.row.D.Denot). old ++ (as_list (range_of cmp w) ++ row_cached cmp (row s.nodes.items (held_of s.high_page)))) (sym c.self.view_is)
     ∙ ap (λ (n : Tree g.row.K.Denot g.row.D.Denot). old ++ cached_ranges cmp n) c.self.view_is)

@@ -22,7 +22,8 @@ pub page::PageOf::remove-returns-in_err-entry-clause-succeeds : goal.page::PageO
 page::PageOf::remove-returns-in_err-entry-clause-succeeds g t c =
     let s = c.self.inside in
     λ f.
-    let never : false ≡ true = c.in_err-entry.ensures.succeeds (free_high g.K.Ord.cmp c.args.key.now s.nodes.items (held_of s.high_page) (subst (HasFreeGap g.K.Ord.cmp c.args.key.now) (sym c.self.view_is) f)) in
+    let never : false ≡ true = c.in_err-entry.ensures.succeeds
+    (free_high g.K.Ord.cmp c.args.key.now s.nodes.items (held_of s.high_page) (subst (HasFreeGap g.K.Ord.cmp c.args.key.now) (sym c.self.view_is) f)) in
     absurd (cc)
 
 pub page::PageOf::remove-returns-in_default-clause-found : goal.page::PageOf::remove-returns-in_default-clause-found
@@ -52,7 +53,8 @@ page::PageOf::remove-returns-in_err-entry-2-clause-succeeds g t c =
     let x = any_of s.nodes.items i within in
     let same = key_there g.K.Ord.cmp c.args.key.now i c.search-spot.ensures.there c.deref.ensures.value c.if-spot.true x within in
     λ f.
-    let free : IsFreeAt i (row s.nodes.items (held_of s.high_page)) = free_equal g.K.Ord.cmp c.args.key.now s.nodes.items (held_of s.high_page) i x within same (subst (HasFreeGap g.K.Ord.cmp c.args.key.now) (sym c.self.view_is) f) in
+    let free : IsFreeAt i (row s.nodes.items (held_of s.high_page)) =
+    free_equal g.K.Ord.cmp c.args.key.now s.nodes.items (held_of s.high_page) i x within same (subst (HasFreeGap g.K.Ord.cmp c.args.key.now) (sym c.self.view_is) f) in
     let never : false ≡ true = c.in_err-entry-2.ensures.succeeds free in
     absurd (cc)
 
@@ -86,9 +88,11 @@ page::PageOf::remove-returns-in_err-entry-3 g t c =
     record {
       found = search rules;
       done = search rules;
-      unchanged = on_err_always _ _ (ap (λ ys. page s.level s.tree_hash (row ys (held_of s.high_page))) (lt_back s.nodes.items i n.key n.value_hash within c.index_mut-node.ensures.value c.node.view_is c.in_err-entry-3.ensures.unchanged) ∙ c.self.view_is);
+      unchanged = on_err_always _ _ (ap (λ ys. page s.level s.tree_hash (row ys (held_of s.high_page)))
+          (lt_back s.nodes.items i n.key n.value_hash within c.index_mut-node.ensures.value c.node.view_is c.in_err-entry-3.ensures.unchanged) ∙ c.self.view_is);
       succeeds = λ f.
-          let free = free_gap g.K.Ord.cmp c.args.key.now s.nodes.items (held_of s.high_page) i c.index_mut-node.result.now within (subst (HasFreeGap g.K.Ord.cmp c.args.key.now) (sym c.self.view_is) f) in
+          let free = free_gap g.K.Ord.cmp c.args.key.now s.nodes.items (held_of s.high_page) i c.index_mut-node.result.now within
+          (subst (HasFreeGap g.K.Ord.cmp c.args.key.now) (sym c.self.view_is) f) in
           let never : false ≡ true = c.in_err-entry-3.ensures.succeeds (subst (λ (e : Node g.row.K.Denot g.row.D.Denot). HeldHasFreeGap g.K.Ord.cmp c.args.key.now e.lt) (sym is) free) in
           absurd (cc);
     }
@@ -104,7 +108,8 @@ page::PageOf::remove-returns-in_default-2 g t c =
     let is = c.node.view_is ∙ c.index_mut-node.ensures.value in
     let other = key_elsewhere g.K.Ord.cmp c.args.key.now i c.search-spot.ensures.there c.deref.ensures.value c.if-spot.false x within in
     record {
-      found = sym (none_else _ c.in_default-2.not-Some) ∙ c.in_ok-entry-3.ensures.found ∙ page_entry-gap g.K.Ord.cmp c.args.key.now s.nodes.items (held_of s.high_page) c.self.view_is i x at within is other;
+      found = sym (none_else _ c.in_default-2.not-Some) ∙ c.in_ok-entry-3.ensures.found
+          ∙ page_entry-gap g.K.Ord.cmp c.args.key.now s.nodes.items (held_of s.high_page) c.self.view_is i x at within is other;
       done =
           let done = at_none _ _ _ (none_else _ c.in_default-2.not-Some) c.in_ok-entry-3.ensures.done in
           ap (λ ys. page s.level s.tree_hash (row ys (held_of s.high_page))) (lt_back s.nodes.items i n.key n.value_hash within c.index_mut-node.ensures.value c.node.view_is done) ∙ c.self.view_is;
@@ -139,7 +144,8 @@ remove::remove_below-returns-clause-done g t c =
     let b = c.behind-page.inside in
     let done : c.remove.new.self ≡ tree_without cmp k c.deref_mut.result.now = at_some _ _ _ c.in-Some-2.entry c.in-Some-2.is c.in_ok-entry.ensures.done in
     let way : gives_way (page b.level b.tree_hash (row b.nodes.items (held_of b.high_page))) ≡ held_del cmp k (held_of c.args.held.now) =
-    ap gives_way (c.behind-page.view_is ∙ c.deref.ensures ∙ done) ∙ sym (without_gives cmp k c.deref_mut.result.now) ∙ ap (tree_del cmp k) c.deref_mut.ensures.value ∙ ap (held_del cmp k) (sym (ap held_of c.in-Some.is)) in
+    ap gives_way (c.behind-page.view_is ∙ c.deref.ensures ∙ done) ∙ sym (without_gives cmp k c.deref_mut.result.now)
+    ∙ ap (tree_del cmp k) c.deref_mut.ensures.value ∙ ap (held_del cmp k) (sym (ap held_of c.in-Some.is)) in
     let none : c.is_empty.result ≡ true → length b.nodes.items ≡ 0 = λ e. omega (arith, eqb-true (vec_len b.nodes) 0 (sym c.is_empty.ensures ∙ e), b.nodes.ok.0) in
     elim c.if-is_empty.branch [
       | remove::remove_below-then-is_empty+in-Some-1 w ↦
@@ -152,7 +158,8 @@ remove::remove_below-returns-clause-done g t c =
           ap held_of (w.held-is ∙ w.replace-rest.ensures.value) ∙ way_same b.nodes.items t.nodes.items (held_of b.high_page) (held_of t.high_page) same (none w.if-is_empty.true) ∙ way
       | remove::remove_below-else-is_empty w ↦
           let ne = eqb-false (vec_len b.nodes) 0 (sym c.is_empty.ensures ∙ w.if-is_empty.false) in
-          ap held_of w.held-is ∙ ap below (sym (c.behind-page.view_is ∙ c.deref.ensures)) ∙ sym (way_some b.level b.tree_hash b.nodes.items (held_of b.high_page) (λ z. ne (omega (arith, z, b.nodes.ok.0)))) ∙ way
+          ap held_of w.held-is ∙ ap below (sym (c.behind-page.view_is ∙ c.deref.ensures))
+          ∙ sym (way_some b.level b.tree_hash b.nodes.items (held_of b.high_page) (λ z. ne (omega (arith, z, b.nodes.ok.0)))) ∙ way
     ]
 
 pub page::PageOf::remove-search-spot-requires : goal.page::PageOf::remove-search-spot-requires

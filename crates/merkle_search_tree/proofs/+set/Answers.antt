@@ -11,7 +11,8 @@ pub page::PageOf::set-returns-in_err-set_below-in-Less-clause-absent : goal.page
 page::PageOf::set-returns-in_err-set_below-in-Less-clause-absent g t c =
     let s = c.self.inside in
     let all = all_below g.K.Ord.cmp c.args.key c.search-spot.ensures.found c.deref.ensures.value c.if-at-len.true c.len.ensures s.nodes.ok.0 in
-    on_err_always _ _ (page_finds-high g.K.Ord.cmp c.args.level c.args.key c.args.digest s.nodes.items (held_of s.high_page) c.self.view_is c.compare_level.ensures c.in-Less.is all ∙ c.in_err-set_below-in-Less.ensures.absent)
+    on_err_always _ _ (page_finds-high g.K.Ord.cmp c.args.level c.args.key c.args.digest s.nodes.items
+    (held_of s.high_page) c.self.view_is c.compare_level.ensures c.in-Less.is all ∙ c.in_err-set_below-in-Less.ensures.absent)
 
 pub page::PageOf::set-returns-then-at-len-clause-done : goal.page::PageOf::set-returns-then-at-len-clause-done
 page::PageOf::set-returns-then-at-len-clause-done g t c =
@@ -28,7 +29,8 @@ page::PageOf::set-returns-then-spot-clause-done g t c =
     let at = c.search-spot.ensures.found ∙ ap (place g.K.Ord.cmp c.args.key) c.deref.ensures.value in
     let within = one_at c.search-spot.ensures.within c.deref.ensures.value c.if-at-len.false c.len.ensures s.nodes.ok.0 in
     let same = key_there g.K.Ord.cmp c.args.key i c.search-spot.ensures.there c.deref.ensures.value c.if-spot.true x within in
-    ap (λ (e : Node g.row.K.Denot g.row.D.Denot). page s.level None (row (slice_set s.nodes.items i (with_digest e c.args.digest)) (held_of s.high_page))) (c.found.view_is ∙ c.index_mut-found.ensures.value)
+    ap (λ (e : Node g.row.K.Denot g.row.D.Denot). page s.level None (row (slice_set s.nodes.items i (with_digest e c.args.digest)) (held_of s.high_page)))
+    (c.found.view_is ∙ c.index_mut-found.ensures.value)
     ∙ page_set-equal g.K.Ord.cmp c.args.level c.args.key c.args.digest s.nodes.items (held_of s.high_page) c.self.view_is c.compare_level.ensures c.in-Less.is i x at within same
 
 pub page::PageOf::set-returns-in_err-set_below-in-Less-2-clause-unchanged : goal.page::PageOf::set-returns-in_err-set_below-in-Less-2-clause-unchanged
@@ -57,7 +59,8 @@ page::PageOf::set-returns-in-Greater-clause-done g t c =
     let is = ap (level_order c.args.level) c.self.view_is ∙ sym c.compare_level.ensures ∙ c.in-Greater.is in
     let f : c.lift.new.self ≡ lifted g.K.Ord.cmp c.args.level c.args.key c.args.digest c.args.self.now → c.lift.new.self ≡ tree_set g.K.Ord.cmp c.args.level c.args.key c.args.digest c.args.self.now =
     λ e. e ∙ ap (lifted g.K.Ord.cmp c.args.level c.args.key c.args.digest) (sym c.self.view_is)
-    ∙ sym (set_greater g.K.Ord.cmp c.args.level c.args.key c.args.digest s.level s.tree_hash s.nodes.items (held_of s.high_page) is) ∙ ap (tree_set g.K.Ord.cmp c.args.level c.args.key c.args.digest) c.self.view_is in
+    ∙ sym (set_greater g.K.Ord.cmp c.args.level c.args.key c.args.digest s.level s.tree_hash s.nodes.items (held_of s.high_page) is)
+    ∙ ap (tree_set g.K.Ord.cmp c.args.level c.args.key c.args.digest) c.self.view_is in
     on_ok_map _ _ _ f c.lift.ensures.done
 
 pub page::PageOf::set-returns-in_ok-set_below-in-Less-2-clause-done : goal.page::PageOf::set-returns-in_ok-set_below-in-Less-2-clause-done

@@ -5,10 +5,10 @@ use Rattle.key_order.specs.Text.{Text, text_order}
 use Rattle.merkle_bytes.specs.Encodings.{list_bytes}
 use Rattle.merkle_replica.specs.Contents.{Side, side}
 use Rattle.examples.specs.PullMessages.{JoinsFirstRows}
-use Rattle.examples.specs.Wire.{IsRow, row_bytes}
+use Rattle.examples.specs.Wire.{HasWideNumber, name_row_bytes}
 use Rattle.examples.proofs.wire.join.Goals as goal
 
-first_rows : (local : Side Text ℕ (List ℕ)) (bytes : List ℕ) (rows after : List (Text × ℕ)) (done : ℕ) → AllByRecursion IsRow rows → bytes ≡ list_bytes row_bytes rows → done < length rows
+first_rows : (local : Side Text ℕ (List ℕ)) (bytes : List ℕ) (rows after : List (Text × ℕ)) (done : ℕ) → AllByRecursion HasWideNumber rows → bytes ≡ list_bytes name_row_bytes rows → done < length rows
     → IsJoin text_order nat_eq max local.rows (take done rows) after → (done ≡ 0 → after ≡ local.rows) → (after ≡ local.rows) ⊎ JoinsFirstRows local bytes after
 first_rows local bytes rows after zero each read not_all joins none = inl (none refl)
 first_rows local bytes rows after (suc n) each read not_all joins none = inr (rows, suc n, each, read, omega arith, not_all, joins)

@@ -5,7 +5,7 @@ use Rattle.merkle_search_tree.specs.Loading.{digests}
 use Rattle.merkle_tree_theory.specs.Stream.{page_digest}
 use Rattle.merkle_tree_theory.specs.TreeOf.{defined_tree}
 use Rattle.merkle_replica.proofs.SideLaws.{laws_of}
-use Rattle.main_theorem.specs.After.{FreeAreAccepted, rows_after}
+use Rattle.main_theorem.specs.After.{FreeUpdatesAreAccepted, rows_after}
 use Rattle.merkle_replica.specs.Agreeing.{AreEqual}
 use Rattle.main_theorem.proofs.Lives.{one_more, free_more, all_done}
 use Rattle.main_theorem.proofs.Roots.{root_as}
@@ -26,9 +26,11 @@ updates-preserved g c =
           let gone = c.in-Some.ensures.steps.1 in
           let short = ap length steps in
           omega arith;
-      answers = ap length c.in_ok-push.ensures.items ∙ length-append c.updates.accepted.items (c.carry_out.result ∷ []) ∙ ap (λ (n : ℕ). n + 1) kept.answers ∙ sym (length-append c.updates.yielded (u ∷ []));
-      free = subst (FreeAreAccepted laws c.args.builder [] (c.updates.yielded ++ u ∷ [])) (sym c.in_ok-push.ensures.items)
-          (free_more laws c.args.builder [] c.updates.yielded u c.updates.accepted.items c.carry_out.result kept.answers kept.free ((rw g.met.H.RowHasher.laws_are at c.carry_out.ensures.free) c.args.builder _ (kept.hasher, kept.base, kept.format) kept.rows));
+      answers = ap length c.in_ok-push.ensures.items ∙ length-append c.updates.accepted.items (c.carry_out.result ∷ []) ∙ ap (λ (n : ℕ). n + 1) kept.answers
+          ∙ sym (length-append c.updates.yielded (u ∷ []));
+      free = subst (FreeUpdatesAreAccepted laws c.args.builder [] (c.updates.yielded ++ u ∷ [])) (sym c.in_ok-push.ensures.items)
+          (free_more laws c.args.builder [] c.updates.yielded u c.updates.accepted.items c.carry_out.result kept.answers kept.free
+          ((rw g.met.H.RowHasher.laws_are at c.carry_out.ensures.free) c.args.builder _ (kept.hasher, kept.base, kept.format) kept.rows));
       rows = subst (λ (bs : List _). AreEqual cmp g.V.PartialEq.eq c.carry_out.new.replica.rows (rows_after cmp join (c.updates.yielded ++ u ∷ []) bs)) (sym c.in_ok-push.ensures.items)
           (subst (AreEqual cmp g.V.PartialEq.eq c.carry_out.new.replica.rows) (sym (one_more cmp join [] c.updates.yielded u c.updates.accepted.items c.carry_out.result kept.answers))
           ((rw g.met.H.RowHasher.laws_are at c.carry_out.ensures.rows) _ kept.rows));
@@ -45,13 +47,15 @@ returns-clause-answers g c =
 pub returns-clause-free : goal.returns-clause-free
 returns-clause-free g c = rw g.met.H.RowHasher.laws_are (
     let laws = laws_of g.K.Ord.cmp g.K.KeyBytes.bytes_of g.H.Hasher-1.digest_of g.V.PartialEq.eq g.V.Join.join_of g.H.Hasher-2.digest_of in
-    subst (λ (us : List _). FreeAreAccepted laws c.args.builder [] us c.updates.accepted.items) (all_done _ _ _ c.updates.invariant.left (sym c.updates.invariant.count ∙ c.in-None.ensures.steps.0)) c.updates.invariant.free)
+    subst (λ (us : List _). FreeUpdatesAreAccepted laws c.args.builder [] us c.updates.accepted.items)
+    (all_done _ _ _ c.updates.invariant.left (sym c.updates.invariant.count ∙ c.in-None.ensures.steps.0)) c.updates.invariant.free)
 
 pub returns-clause-rows : goal.returns-clause-rows
 returns-clause-rows g c =
     let done = all_done _ _ _ c.updates.invariant.left (sym c.updates.invariant.count ∙ c.in-None.ensures.steps.0) in
     subst (λ (us : List _). AreEqual g.K.Ord.cmp g.V.PartialEq.eq c.hash_last.new.replica.rows (rows_after g.K.Ord.cmp g.V.Join.join_of us c.updates.accepted.items)) done
-    (subst (λ (rows : List _). AreEqual g.K.Ord.cmp g.V.PartialEq.eq rows (rows_after g.K.Ord.cmp g.V.Join.join_of c.updates.yielded c.updates.accepted.items)) (sym c.hash_last.ensures.rows) c.updates.invariant.rows)
+    (subst (λ (rows : List _). AreEqual g.K.Ord.cmp g.V.PartialEq.eq rows (rows_after g.K.Ord.cmp g.V.Join.join_of c.updates.yielded c.updates.accepted.items))
+    (sym c.hash_last.ensures.rows) c.updates.invariant.rows)
 
 pub returns-clause-settings : goal.returns-clause-settings
 returns-clause-settings g c =

@@ -4,7 +4,7 @@ use Rattle.merkle_tree_theory.specs.Sound.{IsSound}
 use Rattle.merkle_tree_theory.specs.State.{State}
 use Rattle.merkle_replica.specs.Contents.{Contents}
 use Rattle.merkle_replica.proofs.SideLaws.{laws_of}
-use Rattle.main_theorem.specs.After.{tree_under}
+use Rattle.main_theorem.specs.After.{tree_by_settings}
 use Rattle.main_theorem.proofs.Gaps.{free_alike}
 use Rattle.main_theorem.proofs.Lives.{has_alike, upsert_result, remove_result}
 use Rattle.main_theorem.proofs.Roots.{pages_are}
@@ -17,7 +17,8 @@ rows_stay (Err x) old new h = ap (λ (c : Contents _ _ _). c.rows) h
 
 pub returns-in-Upsert-clause-rows : goal.returns-in-Upsert-clause-rows
 returns-in-Upsert-clause-rows g c = rw g.met.H.RowHasher.laws_are (rw (c.in-Upsert.is, c.is_ok.ensures.value)
-    (upsert_result g.K.Ord.cmp g.met.K.Ord.total g.V.PartialEq.eq g.met.V.Eq.laws g.V.Join.join_of g.met.V.Join.joining c.put.result c.args.replica.now.rows c.put.new.self.rows c.in-Upsert.key c.in-Upsert.value
+    (upsert_result g.K.Ord.cmp g.met.K.Ord.total g.V.PartialEq.eq g.met.V.Eq.laws g.V.Join.join_of g.met.V.Join.joining c.put.result c.args.replica.now.rows
+    c.put.new.self.rows c.in-Upsert.key c.in-Upsert.value
     c.rows.ensures.ascending c.put.ensures.joined (rows_stay c.put.result c.args.replica.now c.put.new.self c.put.ensures.unchanged)))
 
 pub returns-in-Remove-clause-rows : goal.returns-in-Remove-clause-rows
@@ -48,4 +49,4 @@ returns-in-Remove-clause-free g c = rw g.met.H.RowHasher.laws_are (λ s m set f.
     rw c.in-Remove.is
     (λ free. c.is_ok-in-Remove.ensures.value ∙ either
     (λ absent. c.del.ensures.succeeds_absent (has_alike laws.cmp o laws.eq old.rows m k f ∙ absent))
-    (λ gap. c.del.ensures.succeeds (free_alike laws.cmp o k old.tree.root (tree_under laws s m) pages gap)) free))
+    (λ gap. c.del.ensures.succeeds (free_alike laws.cmp o k old.tree.root (tree_by_settings laws s m) pages gap)) free))

@@ -5,7 +5,7 @@ use Rattle.merkle_tree_theory.specs.Sound.{IsSound}
 use Rattle.merkle_tree_theory.specs.State.{State, HasSettings}
 use Rattle.merkle_replica.specs.Contents.{side}
 use Rattle.merkle_tree_theory.specs.Settings.{Settings}
-use Rattle.main_theorem.specs.After.{FreeAreAccepted, IsDefinedBy, rows_after, root_hash_under}
+use Rattle.main_theorem.specs.After.{FreeUpdatesAreAccepted, IsDefinedBy, rows_after, root_hash_under}
 use Rattle.merkle_replica.specs.Agreeing.{AreEqual}
 use Rattle.main_theorem.specs.Course.{AreExchanged}
 use Rattle.merkle_replica.specs.Laws.{Laws}
@@ -16,7 +16,15 @@ use Rattle.main_theorem.proofs.theorem.converge.Goals as goal
 
 pub returns-clause-before : goal.returns-clause-before
 returns-clause-before g c = rw g.met.H.RowHasher.laws_are (
-    let laws : Laws g.row.K.Denot g.row.V.Denot g.row.H.Denot = record { cmp = g.K.Ord.cmp; bytes_of = g.K.KeyBytes.bytes_of; key_digest = g.H.Hasher-1.digest_of; eq = g.V.PartialEq.eq; join = g.V.Join.join_of; value_digest = g.H.Hasher-2.digest_of } in
+    let laws : Laws g.row.K.Denot g.row.V.Denot g.row.H.Denot =
+    record {
+      cmp = g.K.Ord.cmp;
+      bytes_of = g.K.KeyBytes.bytes_of;
+      key_digest = g.H.Hasher-1.digest_of;
+      eq = g.V.PartialEq.eq;
+      join = g.V.Join.join_of;
+      value_digest = g.H.Hasher-2.digest_of;
+    } in
     let cloned = c.in-Ok.ensures in
     let hasher = c.requires.hashers _ _ cloned.hasher in
     let other : Settings g.row.H.Denot = c.in-Ok.other in
@@ -30,18 +38,36 @@ returns-clause-before g c = rw g.met.H.RowHasher.laws_are (
 
 pub returns-clause-rows : goal.returns-clause-rows
 returns-clause-rows g c = rw g.met.H.RowHasher.laws_are (λ apart.
-    let laws : Laws g.row.K.Denot g.row.V.Denot g.row.H.Denot = record { cmp = g.K.Ord.cmp; bytes_of = g.K.KeyBytes.bytes_of; key_digest = g.H.Hasher-1.digest_of; eq = g.V.PartialEq.eq; join = g.V.Join.join_of; value_digest = g.H.Hasher-2.digest_of } in
+    let laws : Laws g.row.K.Denot g.row.V.Denot g.row.H.Denot =
+    record {
+      cmp = g.K.Ord.cmp;
+      bytes_of = g.K.KeyBytes.bytes_of;
+      key_digest = g.H.Hasher-1.digest_of;
+      eq = g.V.PartialEq.eq;
+      join = g.V.Join.join_of;
+      value_digest = g.H.Hasher-2.digest_of;
+    } in
     let a = c.in-Ok-after.a in
     let b = c.in-Ok-after-2.b in
     let (met, made, _) = (rw g.met.H.RowHasher.laws_are at c.in_ok-exchanged.ensures.converges) in
     let (x, y) = apart_stay laws (side a) (side b) c.come_together.new.a.rows c.come_together.new.b.rows met c.args.exchange c.in_ok-exchanged.exchanged apart c.in_ok-exchanged.ensures.done made in (
-      subst (λ rows. AreEqual laws.cmp laws.eq rows (rows_after laws.cmp laws.join c.args.a_updates.items c.in-Ok-after.a_accepted.items)) (sym (c.hash_last.ensures.rows ∙ x)) c.in-Ok-after.ensures.rows,
-      subst (λ rows. AreEqual laws.cmp laws.eq rows (rows_after laws.cmp laws.join c.args.b_updates.items c.in-Ok-after-2.b_accepted.items)) (sym (c.hash_last-2.ensures.rows ∙ y)) c.in-Ok-after-2.ensures.rows,
+      subst (λ rows. AreEqual laws.cmp laws.eq rows (rows_after laws.cmp laws.join c.args.a_updates.items c.in-Ok-after.a_accepted.items))
+          (sym (c.hash_last.ensures.rows ∙ x)) c.in-Ok-after.ensures.rows,
+      subst (λ rows. AreEqual laws.cmp laws.eq rows (rows_after laws.cmp laws.join c.args.b_updates.items c.in-Ok-after-2.b_accepted.items))
+          (sym (c.hash_last-2.ensures.rows ∙ y)) c.in-Ok-after-2.ensures.rows,
     ))
 
 pub returns-clause-a_defined : goal.returns-clause-a_defined
 returns-clause-a_defined g c = rw g.met.H.RowHasher.laws_are (λ m h.
-    let laws : Laws g.row.K.Denot g.row.V.Denot g.row.H.Denot = record { cmp = g.K.Ord.cmp; bytes_of = g.K.KeyBytes.bytes_of; key_digest = g.H.Hasher-1.digest_of; eq = g.V.PartialEq.eq; join = g.V.Join.join_of; value_digest = g.H.Hasher-2.digest_of } in
+    let laws : Laws g.row.K.Denot g.row.V.Denot g.row.H.Denot =
+    record {
+      cmp = g.K.Ord.cmp;
+      bytes_of = g.K.KeyBytes.bytes_of;
+      key_digest = g.H.Hasher-1.digest_of;
+      eq = g.V.PartialEq.eq;
+      join = g.V.Join.join_of;
+      value_digest = g.H.Hasher-2.digest_of;
+    } in
     let one = c.a_map_has_one_tree.ensures in
     let s = c.args.builder in
     let come = c.come_together.new.a in
@@ -50,11 +76,20 @@ returns-clause-a_defined g c = rw g.met.H.RowHasher.laws_are (λ m h.
     let sound = subst (λ (t : State _ _). IsSound laws.cmp laws.key_digest laws.bytes_of t) c.tree.ensures.tree c.every_tree_is_sound.ensures.sound in
     is_defined laws g.met.K.Ord.total g.met.H.Hasher-2.respects_eq one.defined one.only one.digests c.equal_pages_have_equal_maps.ensures.ranges s last.tree last.rows m
     (settings_stay s come.tree last.tree set c.hash_last.ensures.settings) sound c.tree.ensures.digests
-    (root_last laws g.met.K.Ord.total g.met.H.Hasher-2.respects_eq one.defined one.only one.digests c.equal_pages_have_equal_maps.ensures.ranges s come.tree come.rows last.rows last.tree.root_hash set c.hash_last.ensures.rows (rw g.met.H.RowHasher.laws_are at c.hash_last.ensures.root_hash)) h)
+    (root_last laws g.met.K.Ord.total g.met.H.Hasher-2.respects_eq one.defined one.only one.digests c.equal_pages_have_equal_maps.ensures.ranges s come.tree
+    come.rows last.rows last.tree.root_hash set c.hash_last.ensures.rows (rw g.met.H.RowHasher.laws_are at c.hash_last.ensures.root_hash)) h)
 
 pub returns-clause-b_defined : goal.returns-clause-b_defined
 returns-clause-b_defined g c = rw g.met.H.RowHasher.laws_are (λ m h.
-    let laws : Laws g.row.K.Denot g.row.V.Denot g.row.H.Denot = record { cmp = g.K.Ord.cmp; bytes_of = g.K.KeyBytes.bytes_of; key_digest = g.H.Hasher-1.digest_of; eq = g.V.PartialEq.eq; join = g.V.Join.join_of; value_digest = g.H.Hasher-2.digest_of } in
+    let laws : Laws g.row.K.Denot g.row.V.Denot g.row.H.Denot =
+    record {
+      cmp = g.K.Ord.cmp;
+      bytes_of = g.K.KeyBytes.bytes_of;
+      key_digest = g.H.Hasher-1.digest_of;
+      eq = g.V.PartialEq.eq;
+      join = g.V.Join.join_of;
+      value_digest = g.H.Hasher-2.digest_of;
+    } in
     let one = c.a_map_has_one_tree.ensures in
     let s = c.args.builder in
     let come = c.come_together.new.b in
@@ -65,11 +100,20 @@ returns-clause-b_defined g c = rw g.met.H.RowHasher.laws_are (λ m h.
     let sound = subst (λ (t : State _ _). IsSound laws.cmp laws.key_digest laws.bytes_of t) c.tree-2.ensures.tree c.every_tree_is_sound-2.ensures.sound in
     is_defined laws g.met.K.Ord.total g.met.H.Hasher-2.respects_eq one.defined one.only one.digests c.equal_pages_have_equal_maps.ensures.ranges s last.tree last.rows m
     (settings_stay s come.tree last.tree set c.hash_last-2.ensures.settings) sound c.tree-2.ensures.digests
-    (root_last laws g.met.K.Ord.total g.met.H.Hasher-2.respects_eq one.defined one.only one.digests c.equal_pages_have_equal_maps.ensures.ranges s come.tree come.rows last.rows last.tree.root_hash set c.hash_last-2.ensures.rows (rw g.met.H.RowHasher.laws_are at c.hash_last-2.ensures.root_hash)) h)
+    (root_last laws g.met.K.Ord.total g.met.H.Hasher-2.respects_eq one.defined one.only one.digests c.equal_pages_have_equal_maps.ensures.ranges s come.tree
+    come.rows last.rows last.tree.root_hash set c.hash_last-2.ensures.rows (rw g.met.H.RowHasher.laws_are at c.hash_last-2.ensures.root_hash)) h)
 
 pub returns-clause-converges : goal.returns-clause-converges
 returns-clause-converges g c = rw g.met.H.RowHasher.laws_are (
-    let laws : Laws g.row.K.Denot g.row.V.Denot g.row.H.Denot = record { cmp = g.K.Ord.cmp; bytes_of = g.K.KeyBytes.bytes_of; key_digest = g.H.Hasher-1.digest_of; eq = g.V.PartialEq.eq; join = g.V.Join.join_of; value_digest = g.H.Hasher-2.digest_of } in
+    let laws : Laws g.row.K.Denot g.row.V.Denot g.row.H.Denot =
+    record {
+      cmp = g.K.Ord.cmp;
+      bytes_of = g.K.KeyBytes.bytes_of;
+      key_digest = g.H.Hasher-1.digest_of;
+      eq = g.V.PartialEq.eq;
+      join = g.V.Join.join_of;
+      value_digest = g.H.Hasher-2.digest_of;
+    } in
     let o = g.met.K.Ord.total in
     let e = g.met.V.Eq.laws in
     let j = g.met.V.Join.joining in
@@ -96,8 +140,10 @@ returns-clause-converges g c = rw g.met.H.RowHasher.laws_are (
       },
       λ faith enough.
           let (x, y) = all faith enough in
-          let joins_a = join_equal laws.cmp o laws.eq e laws.join j a.rows m b.rows n a'.rows c.in-Ok-after.ensures.rows c.in-Ok-after-2.ensures.rows (subst (IsJoin laws.cmp laws.eq laws.join a.rows b.rows) (sym c.hash_last.ensures.rows) x) in
-          let joins_b = join_equal laws.cmp o laws.eq e laws.join j a.rows m b.rows n b'.rows c.in-Ok-after.ensures.rows c.in-Ok-after-2.ensures.rows (subst (IsJoin laws.cmp laws.eq laws.join a.rows b.rows) (sym c.hash_last-2.ensures.rows) y) in
+          let joins_a = join_equal laws.cmp o laws.eq e laws.join j a.rows m b.rows n a'.rows c.in-Ok-after.ensures.rows c.in-Ok-after-2.ensures.rows
+          (subst (IsJoin laws.cmp laws.eq laws.join a.rows b.rows) (sym c.hash_last.ensures.rows) x) in
+          let joins_b = join_equal laws.cmp o laws.eq e laws.join j a.rows m b.rows n b'.rows c.in-Ok-after.ensures.rows c.in-Ok-after-2.ensures.rows
+          (subst (IsJoin laws.cmp laws.eq laws.join a.rows b.rows) (sym c.hash_last-2.ensures.rows) y) in
           record {
             a_joins = joins_a;
             b_joins = joins_b;
@@ -112,4 +158,4 @@ pub returns-clause-free : goal.returns-clause-free
 returns-clause-free g c =
     let laws = g.H.RowHasher.laws in
     let same : c.in-Ok.other ≡ c.args.builder = λ i. record { hasher = c.requires.hashers _ _ c.in-Ok.ensures.hasher i; base = c.in-Ok.ensures.base i; format = c.in-Ok.ensures.format i } in
-    (c.in-Ok-after.ensures.free, subst (λ s. FreeAreAccepted laws s [] c.args.b_updates.items c.in-Ok-after-2.b_accepted.items) same c.in-Ok-after-2.ensures.free)
+    (c.in-Ok-after.ensures.free, subst (λ s. FreeUpdatesAreAccepted laws s [] c.args.b_updates.items c.in-Ok-after-2.b_accepted.items) same c.in-Ok-after-2.ensures.free)

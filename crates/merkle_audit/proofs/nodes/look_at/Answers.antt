@@ -1,7 +1,7 @@
 use Rattle.std.proofs.Common.{◌++◌, ◌∷◌, [], take, ap, sym, subst, ◌∙◌}
 use Rattle.merkle_replica.specs.Contents.{side}
 use Rattle.merkle_replica.specs.Descent.{gaps_of}
-use Rattle.merkle_search_tree.specs.Items.{gap_of, items}
+use Rattle.merkle_search_tree.specs.Items.{lent_gap, items}
 use Rattle.merkle_wire.specs.Outlines.{nodes_among}
 use Rattle.merkle_wire.proofs.ItemsMore.{map_more}
 use Rattle.merkle_audit.specs.Nodes.{AreFaithful, AreLookedAt, gaps_among}
@@ -18,7 +18,7 @@ gaps-preserved g c =
     let is = ap items c.deref.ensures.value ∙ c.in_ok-list.ensures in
     let is-2 = ap items c.deref-in-gaps.ensures.value ∙ c.in_ok-list.ensures in
     let faithful = subst (λ xs. AreFaithful laws local (nodes_among xs)) is (c.are_faithful.ensures c.if-not-are_faithful.false) in
-    let looked = looked_more laws local tree first (gaps_of c.gaps.below.items) (gap_of x) c.gaps.invariant faithful in
+    let looked = looked_more laws local tree first (gaps_of c.gaps.below.items) (lent_gap x) c.gaps.invariant faithful in
     let now = c.in_ok-add_gaps.ensures ∙ ap (λ xs. gaps_of c.gaps.below.items ++ gaps_among xs) is-2 in
-    subst (λ gs. AreLookedAt laws local tree gs (gaps_of c.add_gaps.new.gaps.items)) (sym (map_more gap_of c.args.gaps.now c.gaps.gap-index x c.gaps-test.true c.gap-item.is))
-    (subst (AreLookedAt laws local tree (first ++ gap_of x ∷ [])) (sym now) looked)
+    subst (λ gs. AreLookedAt laws local tree gs (gaps_of c.add_gaps.new.gaps.items)) (sym (map_more lent_gap c.args.gaps.now c.gaps.gap-index x c.gaps-test.true c.gap-item.is))
+    (subst (AreLookedAt laws local tree (first ++ lent_gap x ∷ [])) (sym now) looked)

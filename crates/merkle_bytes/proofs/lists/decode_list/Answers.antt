@@ -8,7 +8,8 @@ use Rattle.merkle_bytes.proofs.lists.decode_list.Goals as goal
 
 pub entries-init : goal.entries-init
 entries-init g c = (
-  none_read g.T.Decode.is_value (alone g.T.Encode.encoding) stays tt tt c.args.reader.now.left.now c.count.new.self.left.now c.in_ok-count.count c.new-list.result.items c.new-list.ensures.items refl c.in_ok-count.ensures.read,
+  none_read g.T.Decode.is_value (alone g.T.Encode.encoding) stays tt tt c.args.reader.now.left.now c.count.new.self.left.now c.in_ok-count.count
+      c.new-list.result.items c.new-list.ensures.items refl c.in_ok-count.ensures.read,
   c.count.ensures.total,
 )
 
@@ -18,7 +19,8 @@ entries-preserved g c =
       one_read g.T.Decode.is_value (alone g.T.Encode.encoding) stays (λ x y. g.T.PartialEq.eq x y ≡ true)
           (λ u x y r s e. let both = g.met.T.Decode.told x y r s e in (both.0, refl, both.1))
           tt tt tt c.args.reader.now.left.now c.entries.reader.left.now c.decode.new.reader.left.now
-          c.in_ok-count.count c.entries._done c.entries.list.items c.push.new.self.items c.in_ok-next.next c.entries.invariant.0 c.entries-test.true c.in_ok-next.ensures.value pushed refl c.in_ok-next.ensures.read,
+          c.in_ok-count.count c.entries._done c.entries.list.items c.push.new.self.items c.in_ok-next.next c.entries.invariant.0 c.entries-test.true
+          c.in_ok-next.ensures.value pushed refl c.in_ok-next.ensures.read,
       c.decode.ensures.total ∙ c.entries.invariant.1,
     )
 
@@ -29,7 +31,8 @@ pub returns-in_err-next-clause-refused : goal.returns-in_err-next-clause-refused
 returns-in_err-next-clause-refused g c =
     let p = err_from_is_err_and c.from_residual-in_err-next.result c.from_residual-in_err-next.ensures.1 in
     let kept = c.entries.invariant.0 in
-    rw (p.1, p.2) (refused_later c.args.reader.now.total c.args.reader.now.left.now (count_bytes c.in_ok-count.count ++ entries_bytes (alone g.T.Encode.encoding) stays tt c.entries.list.items) c.entries.reader.left.now c.in_err-next.field-0.0
+    rw (p.1, p.2) (refused_later c.args.reader.now.total c.args.reader.now.left.now
+    (count_bytes c.in_ok-count.count ++ entries_bytes (alone g.T.Encode.encoding) stays tt c.entries.list.items) c.entries.reader.left.now c.in_err-next.field-0.0
     kept.read (total_was c.entries.reader.total c.args.reader.now.total c.entries.reader.left.now c.in_err-next.field-0.0 c.entries.invariant.1 c.in_err-next.ensures.refused))
 
 pub returns-in_err-next-clause-malformed : goal.returns-in_err-next-clause-malformed
@@ -42,7 +45,8 @@ returns-in_err-next-clause-malformed g c =
 
 pub returns-clause-read : goal.returns-clause-read
 returns-clause-read g c =
-    all_read g.T.Decode.is_value (alone g.T.Encode.encoding) stays tt tt c.args.reader.now.left.now c.entries.reader.left.now c.in_ok-count.count c.entries._done c.entries.list.items c.entries.invariant.0 (search rules)
+    all_read g.T.Decode.is_value (alone g.T.Encode.encoding) stays tt tt c.args.reader.now.left.now c.entries.reader.left.now c.in_ok-count.count
+    c.entries._done c.entries.list.items c.entries.invariant.0 (search rules)
     ∙ ap (λ t. t ++ c.entries.reader.left.now) (as_list g.T.Encode.encoding c.entries.list.items)
 
 pub returns-in_err-count-clause-malformed : goal.returns-in_err-count-clause-malformed
@@ -50,5 +54,6 @@ returns-in_err-count-clause-malformed g c =
     let p = err_from_is_err_and c.from_residual.result c.from_residual.ensures.1 in
     let left = c.args.reader.now.left.now in
     let fits : length left < 2 ^ 64 = search rules in
-    rw (p.1, p.2) (λ malformed list rest each e. no_list g.T.Decode.is_value (alone g.T.Encode.encoding) stays (λ u. g.met.T.Decode.some) tt left fits (c.in_err-count.ensures.malformed malformed) list rest
+    rw (p.1, p.2) (λ malformed list rest each e. no_list g.T.Decode.is_value (alone g.T.Encode.encoding) stays (λ u. g.met.T.Decode.some) tt left fits
+    (c.in_err-count.ensures.malformed malformed) list rest
     (e ∙ ap (λ t. t ++ rest) (sym (as_list g.T.Encode.encoding list))))

@@ -20,7 +20,8 @@ steps-preserved c = record {
 
 pub steps-smaller : goal.steps-smaller
 steps-smaller c =
-    fewer_left (drop c.steps.at c.args.own.now) (drop c.in_ok-at.at c.args.own.now) c.steps.reader.left.now c.take_step.new.reader.left.now c.steps.bytes.items c.take_step.new.bytes.items c.in_ok-at.ensures.taken
+    fewer_left (drop c.steps.at c.args.own.now)
+    (drop c.in_ok-at.at c.args.own.now) c.steps.reader.left.now c.take_step.new.reader.left.now c.steps.bytes.items c.take_step.new.bytes.items c.in_ok-at.ensures.taken
 
 pub returns-clause-given : goal.returns-clause-given
 returns-clause-given c =

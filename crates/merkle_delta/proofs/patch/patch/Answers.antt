@@ -8,7 +8,8 @@ use Rattle.merkle_delta.proofs.patch.patch.Goals as goal
 pub returns-in_err-digest-clause-unlike : goal.returns-in_err-digest-clause-unlike
 returns-in_err-digest-clause-unlike c =
     let p = err_from_is_err_and c.from_residual.result c.from_residual.ensures.1 in
-    rw (p.1, p.2) (λ unlike bytes over. absurd (omega (arith, delta_long c.args.own.now c.args.reader.now.left.now bytes over, c.in_err-digest.ensures.malformed (malformed_of c.in_err-digest.field-0.0 unlike))))
+    rw (p.1, p.2) (λ unlike bytes over. absurd
+    (omega (arith, delta_long c.args.own.now c.args.reader.now.left.now bytes over, c.in_err-digest.ensures.malformed (malformed_of c.in_err-digest.field-0.0 unlike))))
 
 pub returns-in_err-bytes-clause-unlike : goal.returns-in_err-bytes-clause-unlike
 returns-in_err-bytes-clause-unlike c =

@@ -26,7 +26,8 @@ returns-in_err-byte_string-clause-unlike c =
 pub returns-then-taken-eq0-clause-taken : goal.returns-then-taken-eq0-clause-taken
 returns-then-taken-eq0-clause-taken c =
     let behind = c.count.new.self.left.now in
-    bytes_taken (drop c.args.at c.args.own.now) c.args.reader.now.left.now behind c.byte_string.new.self.left.now c.args.bytes.now.items c.extend_from_slice.new.self.items c.in_ok-byte_string.field-0.now
+    bytes_taken (drop c.args.at c.args.own.now) c.args.reader.now.left.now behind c.byte_string.new.self.left.now c.args.bytes.now.items
+    c.extend_from_slice.new.self.items c.in_ok-byte_string.field-0.now
     (c.in_ok-taken.ensures.read ∙ ap (λ n. count_bytes n ++ behind) c.if-taken-eq0.true) c.in_ok-byte_string.ensures.read c.in_ok-extend_from_slice.ensures.items
 
 pub returns-in_err-passed-clause-unlike : goal.returns-in_err-passed-clause-unlike

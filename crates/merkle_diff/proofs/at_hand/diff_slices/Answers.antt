@@ -9,5 +9,6 @@ returns g c =
     let local = entries c.args.local.now in
     let peer = entries c.args.peer.now in
     let h = answers g.K.Ord.cmp g.met.K.Ord.total (λ found. spans found.items) entry _ _ _ _ local peer c.diff.result
-    (iterator-at_hand entry entries_to_come c.new.result local c.new.ensures) (iterator-at_hand entry entries_to_come c.new-2.result peer c.new-2.ensures) c.diff.ensures.answer c.diff.ensures.memory in
+    (iterator-at_hand entry entries_to_come c.new.result local c.new.ensures)
+    (iterator-at_hand entry entries_to_come c.new-2.result peer c.new-2.ensures) c.diff.ensures.answer c.diff.ensures.memory in
     record { answer = h.0; memory = h.1; nothing = h.2 }

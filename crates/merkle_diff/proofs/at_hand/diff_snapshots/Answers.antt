@@ -8,5 +8,6 @@ returns g c =
     let local = c.args.local.now in
     let peer = c.args.peer.now in
     let h = answers g.K.Ord.cmp g.met.K.Ord.total (λ found. spans found.items) entry _ _ _ _ local peer c.diff.result
-    (iterator-at_hand entry (λ rest. rest) c.iter.result local c.iter.ensures) (iterator-at_hand entry (λ rest. rest) c.iter-2.result peer c.iter-2.ensures) c.diff.ensures.answer c.diff.ensures.memory in
+    (iterator-at_hand entry (λ rest. rest) c.iter.result local c.iter.ensures)
+    (iterator-at_hand entry (λ rest. rest) c.iter-2.result peer c.iter-2.ensures) c.diff.ensures.answer c.diff.ensures.memory in
     record { answer = h.0; memory = h.1; nothing = h.2 }

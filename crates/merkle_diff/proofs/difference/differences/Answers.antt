@@ -30,12 +30,14 @@ returns-then-not-may_answer-clause-ok g c =
       c.drain-then-not-may_answer.ensures.1,
       c.drain-then-not-may_answer-2.ensures.1,
       nothing-by_walk g.K.Ord.cmp g.met.K.Ord.total ls ps c.args.locals.head c.in-Some.first (span c.range-outer.result) (spans c.new-then-not-may_answer.result.items) (λ r. r.ordered)
-          (sym c.in-Some.is ∙ front-is g.J.Iterator.next_gives c.args.peers ps c.drain-then-not-may_answer-2.ensures.1) (front-is g.I.Iterator.next_gives c.args.locals ls c.drain-then-not-may_answer.ensures.1)
+          (sym c.in-Some.is ∙ front-is g.J.Iterator.next_gives c.args.peers ps c.drain-then-not-may_answer-2.ensures.1)
+          (front-is g.I.Iterator.next_gives c.args.locals ls c.drain-then-not-may_answer.ensures.1)
           c.range-outer.ensures (sym c.may_answer.ensures ∙ c.if-not-may_answer.true) (ap spans c.new-then-not-may_answer.ensures.items),
     )
 
 pub cut_apart-requires-clause-bad : goal.cut_apart-requires-clause-bad
-cut_apart-requires-clause-bad g c = merge-is_apart g.K.Ord.cmp g.met.K.Ord.total (spans c.in_ok-marks.marks.bad.items) (spans c.merged-bad.result.items) (spans-ordered c.in_ok-marks.marks.bad.items) c.merged-bad.ensures
+cut_apart-requires-clause-bad g c = merge-is_apart g.K.Ord.cmp g.met.K.Ord.total (spans c.in_ok-marks.marks.bad.items) (spans c.merged-bad.result.items)
+    (spans-ordered c.in_ok-marks.marks.bad.items) c.merged-bad.ensures
 
 pub cut_apart-requires-clause-good : goal.cut_apart-requires-clause-good
 cut_apart-requires-clause-good g c =
@@ -62,8 +64,11 @@ returns-clause-ok g c =
 
 pub returns-in_err-marks-clause-err : goal.returns-in_err-marks-clause-err
 returns-in_err-marks-clause-err g c =
-    on_err c.from_residual.result _ (heads-may_answer g.K.Ord.cmp g.met.K.Ord.total c.args.locals.head c.args.peers.head c.in-Some.first (span c.range-outer.result) c.in-Some.is c.range-outer.ensures (sym c.may_answer.ensures ∙ c.if-not-may_answer.false))
+    on_err c.from_residual.result _
+    (heads-may_answer g.K.Ord.cmp g.met.K.Ord.total c.args.locals.head c.args.peers.head c.in-Some.first
+    (span c.range-outer.result) c.in-Some.is c.range-outer.ensures (sym c.may_answer.ensures ∙ c.if-not-may_answer.false))
 
 pub returns-clause-err : goal.returns-clause-err
 returns-clause-err g c =
-    on_err c.cut_apart.result _ (heads-may_answer g.K.Ord.cmp g.met.K.Ord.total c.args.locals.head c.args.peers.head c.in-Some.first (span c.range-outer.result) c.in-Some.is c.range-outer.ensures (sym c.may_answer.ensures ∙ c.if-not-may_answer.false))
+    on_err c.cut_apart.result _ (heads-may_answer g.K.Ord.cmp g.met.K.Ord.total c.args.locals.head c.args.peers.head c.in-Some.first
+    (span c.range-outer.result) c.in-Some.is c.range-outer.ensures (sym c.may_answer.ensures ∙ c.if-not-may_answer.false))

@@ -5,7 +5,8 @@ use Rattle.merkle_diff.proofs.lookahead.drain.Goals as goal
 pub items-preserved-in-Some : goal.items-preserved-in-Some
 items-preserved-in-Some g c = record {
   goes = c.in-Some.ensures.goes;
-  ends = λ xs h. c.items.invariant.ends (c.in-Some.field-0 ∷ xs) (Leaves-cons g.I.Iterator.next_gives c.items.queue c.take_head.new.queue c.in-Some.field-0 xs c.in-Some.ensures.head c.in-Some.ensures.steps h);
+  ends = λ xs h. c.items.invariant.ends (c.in-Some.field-0 ∷ xs)
+      (Leaves-cons g.I.Iterator.next_gives c.items.queue c.take_head.new.queue c.in-Some.field-0 xs c.in-Some.ensures.head c.in-Some.ensures.steps h);
 }
 
 pub returns : goal.returns

@@ -23,8 +23,10 @@ returns-clause-merged g c =
 pub returns-clause-same_keys : goal.returns-clause-same_keys
 returns-clause-same_keys g c = λ k.
     let items = c.args.ranges.now.items in
-    let new = c.truncate.new.self.items in
-    (merge-to g.K.Ord.cmp g.met.K.Ord.total k (spans items) (spans new) (spans-ordered items) (returns-clause-merged g c), merge-from g.K.Ord.cmp g.met.K.Ord.total k (spans items) (spans new) (spans-ordered items) (returns-clause-merged g c))
+    let new = c.truncate.new.self.items in (
+      merge-to g.K.Ord.cmp g.met.K.Ord.total k (spans items) (spans new) (spans-ordered items) (returns-clause-merged g c),
+      merge-from g.K.Ord.cmp g.met.K.Ord.total k (spans items) (spans new) (spans-ordered items) (returns-clause-merged g c),
+    )
 
 pub returns-clause-apart : goal.returns-clause-apart
 returns-clause-apart g c =

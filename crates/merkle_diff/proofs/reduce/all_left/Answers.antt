@@ -13,8 +13,10 @@ bad-preserved g c =
     let x = c.index-bad-i.result in
     let n : c.bad.i < length c.args.bad.now = omega arith in
     let v = drop-view span c.bad.i x c.args.bad.now c.index-bad-i.is n in
-    step-range cmp o (span x) (spans (drop c.bad.i c.args.bad.now)) (spans (drop (c.bad.i + 1) c.args.bad.now)) (spans (drop c.bad.next c.args.good.now)) (spans (drop c.in_ok-next.next c.args.good.now))
-    (spans c.bad.pieces.items) (spans c.push_left.new.pieces.items) (pieces_left cmp (spans c.args.bad.now) (spans c.args.good.now)) v (apart-drop cmp o span c.bad.i c.args.bad.now c.requires.bad) c.in_ok-next.ensures.rest c.in_ok-next.ensures.pieces c.bad.invariant
+    step-range cmp o (span x) (spans (drop c.bad.i c.args.bad.now)) (spans (drop (c.bad.i + 1) c.args.bad.now)) (spans (drop c.bad.next c.args.good.now))
+    (spans (drop c.in_ok-next.next c.args.good.now))
+    (spans c.bad.pieces.items) (spans c.push_left.new.pieces.items) (pieces_left cmp (spans c.args.bad.now) (spans c.args.good.now)) v
+    (apart-drop cmp o span c.bad.i c.args.bad.now c.requires.bad) c.in_ok-next.ensures.rest c.in_ok-next.ensures.pieces c.bad.invariant
 
 pub returns-clause-left : goal.returns-clause-left
 returns-clause-left g c =

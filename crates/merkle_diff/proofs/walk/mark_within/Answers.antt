@@ -4,7 +4,7 @@ use Rattle.key_order.specs.Interval.{is_within}
 use Rattle.merkle_diff.specs.DiffRange.{span, spans}
 use Rattle.merkle_diff.specs.PageRange.{entry, entries}
 use Rattle.merkle_diff.specs.Turn.{head_is, Marked}
-use Rattle.merkle_diff.specs.Lookahead.{left_of}
+use Rattle.merkle_diff.specs.Lookahead.{items_left}
 use Rattle.merkle_diff.specs.Walk.{after_within, front_within, bad_marks}
 use Rattle.merkle_diff.proofs.Queues.{some_at}
 use Rattle.merkle_diff.proofs.QueueSteps.{Leads-more, Leads-end, Marking, mark-more, mark-end, added, within-stops}
@@ -21,14 +21,17 @@ front-preserved g c =
     let B' = spans c.push.new.self.items in
     let G = spans c.front.marks.good.items in
     let t = ap (head_is (λ r. is_within cmp (span_of (entry r)) s)) c.in-Some.ensures.head ∙ (sym c.head_is_within.ensures ∙ c.front-test.true) in
-    let n : left_of g.I.Iterator.remaining c.take_head.new.queue < left_of g.I.Iterator.remaining c.front.queue = some_at (λ _. left_of g.I.Iterator.remaining c.take_head.new.queue < left_of g.I.Iterator.remaining c.front.queue) c.front.queue.head x c.in-Some.ensures.head c.in-Some.ensures.nearer in
+    let n : items_left g.I.Iterator.remaining c.take_head.new.queue < items_left g.I.Iterator.remaining c.front.queue =
+    some_at (λ _. items_left g.I.Iterator.remaining c.take_head.new.queue < items_left g.I.Iterator.remaining c.front.queue) c.front.queue.head x c.in-Some.ensures.head c.in-Some.ensures.nearer in
     record {
       goes = c.in-Some.ensures.goes;
       no_more = omega arith;
       leads = Leads-more g.I.Iterator.next_gives c.args.queue.now c.front.queue c.take_head.new.queue
           (Marking cmp s B0 G0 B G) (Marking cmp s B0 G0 B' G)
           x (sym c.in-Some.ensures.head) c.in-Some.ensures.steps
-          (λ qs ps h. mark-more cmp s B0 G0 B B' G (entry x) qs ps t (λ ys. added c.front.marks.bad.items c.push.new.self.items c.range.result ys c.in_ok-push.ensures.items ∙ ap (λ r. B ++ (r ∷ ys)) c.range.ensures) h) c.front.invariant.leads;
+          (λ qs ps h. mark-more cmp s B0 G0 B B' G (entry x) qs ps t
+          (λ ys. added c.front.marks.bad.items c.push.new.self.items c.range.result ys c.in_ok-push.ensures.items
+          ∙ ap (λ r. B ++ (r ∷ ys)) c.range.ensures) h) c.front.invariant.leads;
     }
 
 pub returns-clause-leads : goal.returns-clause-leads

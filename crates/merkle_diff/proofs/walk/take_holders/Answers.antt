@@ -20,7 +20,11 @@ front-preserved g c =
           (λ ks ls. (after_holders cmp s ls ≡ after_holders cmp s ks) × (last_digest cmp s c.front.last ls ≡ last_digest cmp s c.args.first ks))
           (λ ks ls. (after_holders cmp s ls ≡ after_holders cmp s ks) × (last_digest cmp s c.into_hash-last.result ls ≡ last_digest cmp s c.args.first ks))
           x (sym c.in-Some.ensures.head) c.in-Some.ensures.steps
-          (λ ks ls h. (sym (holders-more cmp s c.front.last (entry x) ls t).0 ∙ h.0, ap (λ d. last_digest cmp s d ls) c.into_hash-last.ensures ∙ (sym (holders-more cmp s c.front.last (entry x) ls t).1 ∙ h.1))) c.front.invariant.leads;
+          (λ ks ls h. (
+            sym (holders-more cmp s c.front.last (entry x) ls t).0 ∙ h.0,
+            ap (λ d. last_digest cmp s d ls) c.into_hash-last.ensures
+                ∙ (sym (holders-more cmp s c.front.last (entry x) ls t).1 ∙ h.1),
+          )) c.front.invariant.leads;
     }
 
 pub returns-after-front-clause-leads : goal.returns-after-front-clause-leads

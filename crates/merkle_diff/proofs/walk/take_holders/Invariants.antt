@@ -1,5 +1,5 @@
 use Rattle.std.proofs.Common.{◌≡◌}
-use Rattle.merkle_diff.specs.Lookahead.{CanGoOn, left_of}
+use Rattle.merkle_diff.specs.Lookahead.{CanGoOn, items_left}
 use Rattle.merkle_diff.specs.DiffRange.{span}
 use Rattle.merkle_diff.specs.Turn.{Leads, last_digest}
 use Rattle.merkle_diff.specs.Walk.{after_holders}
@@ -13,4 +13,4 @@ invariant-front g l = record {
 }
 
 abbrev pub decreases-front : goal.decreases-front
-decreases-front g l = left_of g.I.Iterator.remaining l.queue
+decreases-front g l = items_left g.I.Iterator.remaining l.queue

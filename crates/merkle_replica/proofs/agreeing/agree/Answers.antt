@@ -31,6 +31,7 @@ returns-clause-alike g c = rw g.met.H.RowHasher.laws_are (λ alike one_digest ro
     let law = c.a_map_has_one_tree.ensures in
     let maps = equal_digests laws a b g.met.H.Hasher-2.respects_eq one_digest a.rows b.rows rows in
     let here = law.digests a.hasher a.base a.format (tree_map laws a) m c.args.a.now.tree.root _ maps (sound_a.canonical, c.tree.ensures.digests) (law.defined a.hasher a.base m) in
-    let there = law.digests b.hasher b.base b.format m m c.args.b.now.tree.root _ (same_map-own laws.cmp g.met.K.Ord.total m) (sound_b.canonical, c.tree-2.ensures.digests) (law.defined b.hasher b.base m) in
+    let there = law.digests b.hasher b.base b.format m m c.args.b.now.tree.root _ (same_map-own laws.cmp g.met.K.Ord.total m)
+    (sound_b.canonical, c.tree-2.ensures.digests) (law.defined b.hasher b.base m) in
     let hashes = c.root_hash.ensures.digest ∙ here ∙ one_root laws a b alike m ∙ sym there ∙ sym c.root_hash-2.ensures.digest in
     c.eq.ensures ∙ subst (λ d. pointwise nat_eq c.root_hash.result.now d ≡ true) hashes (nat_list_eq_equiv.refl c.root_hash.result.now))

@@ -17,5 +17,8 @@ returns-in-Ok-catch_up-clause-join g c = rw g.met.H.RowHasher.laws_are (λ first
     let one = (rw g.met.H.RowHasher.laws_are at c.in-Ok.ensures.join) first in
     let faith = subst (λ s. IsFaithful laws s (side mid)) (sym (same_side b met c.catch_up.ensures.peer_rows c.catch_up.ensures.peer_settings))
     (subst (IsFaithful laws (side b)) (sym (rows_alone a mid c.catch_up.ensures.settings)) (subst (λ rows. IsFaithful laws (side b) (with_rows (side a) rows)) stays second)) in
-    let two = subst (λ rows. IsJoin laws.cmp laws.eq laws.join rows mid.rows c.catch_up-2.new.self.rows) c.catch_up.ensures.peer_rows ((rw g.met.H.RowHasher.laws_are at c.in-Ok-catch_up.ensures.join) faith) in
-    (subst (IsJoin laws.cmp laws.eq laws.join a.rows b.rows) (sym stays) one, join_back laws.cmp laws.eq g.met.V.Eq.laws laws.join g.met.V.Join.joining a.rows b.rows mid.rows c.catch_up-2.new.self.rows one two))
+    let two = subst (λ rows. IsJoin laws.cmp laws.eq laws.join rows mid.rows c.catch_up-2.new.self.rows) c.catch_up.ensures.peer_rows
+    ((rw g.met.H.RowHasher.laws_are at c.in-Ok-catch_up.ensures.join) faith) in (
+      subst (IsJoin laws.cmp laws.eq laws.join a.rows b.rows) (sym stays) one,
+      join_back laws.cmp laws.eq g.met.V.Eq.laws laws.join g.met.V.Join.joining a.rows b.rows mid.rows c.catch_up-2.new.self.rows one two,
+    ))

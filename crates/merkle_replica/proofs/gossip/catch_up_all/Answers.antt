@@ -45,13 +45,16 @@ gathers_next g c =
     let hub = c.gathering.hub in
     let hub' = c.catch_up.new.self in
     let x' = c.catch_up.new.peer in
-    gathers_on (laws_for g) g.met.K.Ord.total g.met.V.Eq.laws g.met.V.Join.joining (side c.args.hub.now) (map side c.args.others.now) i (side hub) (side hub') (map side xs) (map side (set xs i x')) (side x)
+    gathers_on (laws_for g) g.met.K.Ord.total g.met.V.Eq.laws g.met.V.Join.joining (side c.args.hub.now) (map side c.args.others.now) i (side hub) (side hub')
+    (map side xs) (map side (set xs i x')) (side x)
     (in_range xs i d f) (side_there xs i d f) (rw g.met.H.RowHasher.laws_are at c.gathering.invariant) (rows_alone hub hub' c.catch_up.ensures.settings)
     (put_back xs i d f x' (same_side x x' c.catch_up.ensures.peer_rows c.catch_up.ensures.peer_settings))
 
 -- what comes of the catch-up of the next of the others with the hub
-spreads_next : (g : Over) (c : After-catch_up-in-spreading g) → SpreadsOn (laws_for g) (side c.args.hub.now) (map side c.args.others.now) c.spreading.i (side c.spreading.hub) (side c.catch_up-in-spreading.new.peer)
-    (side (get_or c.spreading.others c.spreading.i c.index-others-i-in-spreading.result)) (side c.catch_up-in-spreading.new.self) (map side (set c.spreading.others c.spreading.i c.catch_up-in-spreading.new.self))
+spreads_next : (g : Over) (c : After-catch_up-in-spreading g)
+    → SpreadsOn (laws_for g) (side c.args.hub.now) (map side c.args.others.now) c.spreading.i (side c.spreading.hub) (side c.catch_up-in-spreading.new.peer)
+    (side (get_or c.spreading.others c.spreading.i c.index-others-i-in-spreading.result)) (side c.catch_up-in-spreading.new.self)
+    (map side (set c.spreading.others c.spreading.i c.catch_up-in-spreading.new.self))
 spreads_next g c =
     let xs = c.spreading.others in
     let i = c.spreading.i in
@@ -65,25 +68,32 @@ spreads_next g c =
     let l = length-map c.args.others.now (side {K = g.row.K.Denot} {V = g.row.V.Denot} {H = g.row.H.Denot}) in
     let m = length-map xs (side {K = g.row.K.Denot} {V = g.row.V.Denot} {H = g.row.H.Denot}) in
     let q : length (map side xs) ≡ length (map side c.args.others.now) = omega arith in
-    spreads_on (laws_for g) g.met.K.Ord.total g.met.V.Eq.laws g.met.V.Join.joining (side c.args.hub.now) (map side c.args.others.now) i (side hub) (side hub') (map side xs) (map side (set xs i x')) (side x) (side x')
-    (in_range xs i d f) q (side_there xs i d f) (rw g.met.H.RowHasher.laws_are at c.spreading.invariant) (same_side hub hub' e.peer_rows e.peer_settings) (rows_alone x x' e.settings) (map-set side xs i x')
+    spreads_on (laws_for g) g.met.K.Ord.total g.met.V.Eq.laws g.met.V.Join.joining (side c.args.hub.now) (map side c.args.others.now) i (side hub) (side hub')
+    (map side xs) (map side (set xs i x')) (side x) (side x')
+    (in_range xs i d f) q (side_there xs i d f) (rw g.met.H.RowHasher.laws_are at c.spreading.invariant) (same_side hub hub' e.peer_rows e.peer_settings)
+    (rows_alone x x' e.settings) (map-set side xs i x')
 
 pub gathering-preserved : goal.gathering-preserved
 gathering-preserved g c = rw g.met.H.RowHasher.laws_are
-    ((gathers_next g (goal.at.gathering-preserved g c).After-catch_up).goes_on c.in-Ok.field-0.joined (rw g.met.H.RowHasher.laws_are at c.in-Ok.ensures.done) (rw g.met.H.RowHasher.laws_are at c.in-Ok.ensures.join)
-    (subst (λ (y : Contents _ _ _). IsMap g.K.Ord.cmp y.rows) (same_place c.gathering.others c.gathering.i c.index-others-i.result c.index-others-i-in-gathering.result (let t = c.gathering-test.true in omega arith)) c.rows_ascend-in-gathering.ensures))
+    ((gathers_next g (goal.at.gathering-preserved g c).After-catch_up).goes_on c.in-Ok.field-0.joined (rw g.met.H.RowHasher.laws_are at c.in-Ok.ensures.done)
+    (rw g.met.H.RowHasher.laws_are at c.in-Ok.ensures.join)
+    (subst (λ (y : Contents _ _ _). IsMap g.K.Ord.cmp y.rows)
+    (same_place c.gathering.others c.gathering.i c.index-others-i.result c.index-others-i-in-gathering.result
+    (let t = c.gathering-test.true in omega arith)) c.rows_ascend-in-gathering.ensures))
 
 pub returns-in-Err-clause-stopped : goal.returns-in-Err-clause-stopped
 returns-in-Err-clause-stopped g c = rw g.met.H.RowHasher.laws_are (
     let first = side c.args.hub.now in
-    subst (λ n. StopsGossip (laws_for g) c.gathering.i c.in-Err.fault (through_hub n) (numbered first (first ∷ map side c.args.others.now)) (numbered first (side c.catch_up.new.self ∷ map side (set c.gathering.others c.gathering.i c.catch_up.new.peer))))
+    subst (λ n. StopsGossip (laws_for g) c.gathering.i c.in-Err.fault (through_hub n) (numbered first (first ∷ map side c.args.others.now))
+    (numbered first (side c.catch_up.new.self ∷ map side (set c.gathering.others c.gathering.i c.catch_up.new.peer))))
     (length-map c.args.others.now side) ((gathers_next g (goal.at.returns-in-Err-clause-stopped g c).After-catch_up).stops c.in-Err.fault (rw g.met.H.RowHasher.laws_are at c.in-Err.ensures.refused)))
 
 pub spreading-init : goal.spreading-init
 spreading-init g c = rw g.met.H.RowHasher.laws_are (
     let l = length-map c.args.others.now (side {K = g.row.K.Denot} {V = g.row.V.Denot} {H = g.row.H.Denot}) in
     let all : c.gathering.i ≡ length (map side c.args.others.now) = let t = c.gathering-test.false in omega arith in
-    turns_back (laws_for g) g.met.K.Ord.total g.met.V.Eq.laws g.met.V.Join.joining (side c.args.hub.now) (map side c.args.others.now) c.gathering.i (side c.gathering.hub) (map side c.gathering.others) all
+    turns_back (laws_for g) g.met.K.Ord.total g.met.V.Eq.laws g.met.V.Join.joining (side c.args.hub.now) (map side c.args.others.now) c.gathering.i
+    (side c.gathering.hub) (map side c.gathering.others) all
     (rw g.met.H.RowHasher.laws_are at c.gathering.invariant))
 
 pub spreading-preserved : goal.spreading-preserved
@@ -97,4 +107,5 @@ returns-in-Err-catch_up-clause-stopped g c = rw g.met.H.RowHasher.laws_are (
     let i = c.spreading.i in
     let after = numbered first (side c.catch_up-in-spreading.new.peer ∷ map side (set c.spreading.others i c.catch_up-in-spreading.new.self)) in
     subst (λ n. StopsGossip (laws_for g) (n + i) c.in-Err-catch_up.fault (through_hub n) (numbered first (first ∷ map side c.args.others.now)) after) (length-map c.args.others.now side)
-    ((spreads_next g (goal.at.returns-in-Err-catch_up-clause-stopped g c).After-catch_up-in-spreading).stops c.in-Err-catch_up.fault (rw g.met.H.RowHasher.laws_are at c.in-Err-catch_up.ensures.refused)))
+    ((spreads_next g (goal.at.returns-in-Err-catch_up-clause-stopped g c).After-catch_up-in-spreading).stops c.in-Err-catch_up.fault
+    (rw g.met.H.RowHasher.laws_are at c.in-Err-catch_up.ensures.refused)))

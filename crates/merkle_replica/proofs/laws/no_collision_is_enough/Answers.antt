@@ -9,12 +9,16 @@ returns-clause-faithful g c = rw g.met.H.RowHasher.laws_are (λ a b.
     faithful_from laws g.row.N a b (c.exact_keys_make_pages_faithful.ensures.pages a.hasher a.base (tree_map laws a) (tree_map laws b)))
 
 pub returns-clause-all_faithful : goal.returns-clause-all_faithful
-returns-clause-all_faithful g c = rw g.met.H.RowHasher.laws_are (all_faithful (laws_of g.K.Ord.cmp g.K.KeyBytes.bytes_of g.H.Hasher-1.digest_of g.V.PartialEq.eq g.V.Join.join_of g.H.Hasher-2.digest_of) g.row.N c.exact_keys_make_pages_faithful.ensures.pages)
+returns-clause-all_faithful g c = rw g.met.H.RowHasher.laws_are
+    (all_faithful (laws_of g.K.Ord.cmp g.K.KeyBytes.bytes_of g.H.Hasher-1.digest_of g.V.PartialEq.eq g.V.Join.join_of g.H.Hasher-2.digest_of) g.row.N c.exact_keys_make_pages_faithful.ensures.pages)
 
 pub returns-clause-covers : goal.returns-clause-covers
 returns-clause-covers g c = rw g.met.H.RowHasher.laws_are (λ local peer found.
     let laws = laws_of g.K.Ord.cmp g.K.KeyBytes.bytes_of g.H.Hasher-1.digest_of g.V.PartialEq.eq g.V.Join.join_of g.H.Hasher-2.digest_of in
-    covers_from laws g.row.N g.met.K.Ord.total c.page_ranges_of_a_map.ensures.listing local peer found (c.exact_keys_make_pages_faithful.ensures.pages local.hasher local.base (tree_map laws local) (tree_map laws peer)))
+    covers_from laws g.row.N g.met.K.Ord.total c.page_ranges_of_a_map.ensures.listing local peer found
+    (c.exact_keys_make_pages_faithful.ensures.pages local.hasher local.base (tree_map laws local) (tree_map laws peer)))
 
 pub returns-clause-converges : goal.returns-clause-converges
-returns-clause-converges g c = rw g.met.H.RowHasher.laws_are (converges_from (laws_of g.K.Ord.cmp g.K.KeyBytes.bytes_of g.H.Hasher-1.digest_of g.V.PartialEq.eq g.V.Join.join_of g.H.Hasher-2.digest_of) g.row.N c.exact_keys_make_pages_faithful.ensures.pages g.met.K.Ord.total g.met.V.Eq.laws g.met.V.Join.joining c.page_ranges_of_a_map.ensures.listing)
+returns-clause-converges g c = rw g.met.H.RowHasher.laws_are
+    (converges_from (laws_of g.K.Ord.cmp g.K.KeyBytes.bytes_of g.H.Hasher-1.digest_of g.V.PartialEq.eq g.V.Join.join_of g.H.Hasher-2.digest_of) g.row.N
+    c.exact_keys_make_pages_faithful.ensures.pages g.met.K.Ord.total g.met.V.Eq.laws g.met.V.Join.joining c.page_ranges_of_a_map.ensures.listing)

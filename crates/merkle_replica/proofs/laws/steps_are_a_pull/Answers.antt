@@ -8,4 +8,5 @@ returns-clause-answer g c = rw g.met.H.RowHasher.laws_are (
 
 pub returns-clause-pull : goal.returns-clause-pull
 returns-clause-pull g c = rw g.met.H.RowHasher.laws_are (
-    steps_pull (laws_of g.K.Ord.cmp g.K.KeyBytes.bytes_of g.H.Hasher-1.digest_of g.V.PartialEq.eq g.V.Join.join_of g.H.Hasher-2.digest_of) g.met.K.Ord.total g.met.V.Eq.laws g.met.V.Join.joining c.page_ranges_of_a_map.ensures.shaped)
+    steps_pull (laws_of g.K.Ord.cmp g.K.KeyBytes.bytes_of g.H.Hasher-1.digest_of g.V.PartialEq.eq g.V.Join.join_of g.H.Hasher-2.digest_of) g.met.K.Ord.total
+    g.met.V.Eq.laws g.met.V.Join.joining c.page_ranges_of_a_map.ensures.shaped)

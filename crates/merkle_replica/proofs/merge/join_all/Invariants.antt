@@ -14,10 +14,12 @@ use Rattle.merkle_replica.proofs.merge.join_all.Given as goal
 abbrev pub invariant-joining : goal.invariant-joining
 invariant-joining g l = record {
   inside : l.at ≤ length l.ranges;
-  joins : Joins g.K.Ord.cmp g.met.K.Ord.total g.V.PartialEq.eq g.met.V.Eq.laws g.V.Join.join_of g.met.V.Join.joining (spans_of l.ranges) l.theirs (drop l.at (spans_of l.ranges)) l.row-index l.fn.rows.items l.done (whole l.rows.items l.back.items);
+  joins : Joins g.K.Ord.cmp g.met.K.Ord.total g.V.PartialEq.eq g.met.V.Eq.laws g.V.Join.join_of g.met.V.Join.joining (spans_of l.ranges) l.theirs
+      (drop l.at (spans_of l.ranges)) l.row-index l.fn.rows.items l.done (whole l.rows.items l.back.items);
   few : l.done ≤ l.row-index;
   kept : IsKept g.K.Ord.cmp g.H.Hasher-2.digest_of (record { rows = whole l.rows.items l.back.items; tree = l.tree });
-  low : (j : ℕ) (d : g.row.K.Denot × g.row.V.Denot) → l.row-index ≤ j → j < length l.theirs → begins_upto g.K.Ord.cmp (get_or l.theirs j d).0 (spans_of l.ranges) ≡ true → AllByRecursion (λ s. Below g.K.Ord.cmp s.0 (get_or l.theirs j d).0) l.rows.items;
+  low : (j : ℕ) (d : g.row.K.Denot × g.row.V.Denot) → l.row-index ≤ j → j < length l.theirs
+      → begins_upto g.K.Ord.cmp (get_or l.theirs j d).0 (spans_of l.ranges) ≡ true → AllByRecursion (λ s. Below g.K.Ord.cmp s.0 (get_or l.theirs j d).0) l.rows.items;
   room : vec_len l.rows + vec_len l.back + l.joined ≤ vec_capacity l.rows + l.done;
   hasher : l.tree.hasher ≡ l.fn.tree.hasher;
   base : l.tree.base ≡ l.fn.tree.base;

@@ -20,7 +20,8 @@ returns-then-is_next-clause-kept g c =
     let x = c.index_mut.result.now in
     let is : first_is cmp key (reverse B) ≡ true = ap (λ xs. first_is cmp key (reverse xs)) (sym c.deref.ensures.value) ∙ sym c.is_next.ensures ∙ c.if-is_next.true in
     let e : suc n ≡ length B = omega (arith, next-some cmp o key B is, c.len-at.ensures, c.pass.new.back.ok.0) in
-    let kept : IsKept cmp g.H.Hasher-2.digest_of (record { rows = whole F B; tree = c.args.tree.now }) = subst (λ w. IsKept cmp g.H.Hasher-2.digest_of (record { rows = w; tree = c.args.tree.now })) (sym c.pass.ensures.whole) c.requires.kept in
+    let kept : IsKept cmp g.H.Hasher-2.digest_of (record { rows = whole F B; tree = c.args.tree.now }) =
+    subst (λ w. IsKept cmp g.H.Hasher-2.digest_of (record { rows = w; tree = c.args.tree.now })) (sym c.pass.ensures.whole) c.requires.kept in
     let p = at-next cmp o F B n key x x c.in_ok-stored.stored e c.index_mut.ensures.value is in
     kept_set cmp g.H.Hasher-2.digest_of o (whole F B) _ c.args.tree.now c.upsert.new.self key key c.in_ok-stored.stored
     (p.2 ∙ set_there cmp o (whole F B) (length F) x key c.in_ok-stored.stored kept.ascending p.0 p.1)
@@ -56,7 +57,8 @@ returns-clause-kept g c =
     let B = c.pass.new.back.items in
     let key = c.args.key in
     let is : first_is cmp key (reverse B) ≡ false = ap (λ xs. first_is cmp key (reverse xs)) (sym c.deref.ensures.value) ∙ sym c.is_next.ensures ∙ c.if-is_next.false in
-    let kept : IsKept cmp g.H.Hasher-2.digest_of (record { rows = whole F B; tree = c.args.tree.now }) = subst (λ w. IsKept cmp g.H.Hasher-2.digest_of (record { rows = w; tree = c.args.tree.now })) (sym c.pass.ensures.whole) c.requires.kept in
+    let kept : IsKept cmp g.H.Hasher-2.digest_of (record { rows = whole F B; tree = c.args.tree.now }) =
+    subst (λ w. IsKept cmp g.H.Hasher-2.digest_of (record { rows = w; tree = c.args.tree.now })) (sym c.pass.ensures.whole) c.requires.kept in
     let p = at-gap cmp o F B key c.args.value c.pass.ensures.below kept.ascending c.pass.ensures.next is in
     kept_set cmp g.H.Hasher-2.digest_of o (whole F B) _ c.args.tree.now c.upsert-2.new.self c.in_ok-own.own key c.args.value
     (ap (whole F) (c.push_reserved.ensures.items ∙ ap (λ xs. xs ++ (key, c.args.value) ∷ []) c.reserve_exact.ensures.items) ∙ p.1 ∙ set_new cmp o (whole F B) (length F) key c.args.value p.0)
@@ -76,5 +78,7 @@ returns-clause-joined g c =
     let up : IsMap cmp (whole F B) = subst (IsMap cmp) (sym c.pass.ensures.whole) c.requires.kept.ascending in
     let p = at-gap cmp o F B key c.args.value c.pass.ensures.below up c.pass.ensures.next is in
     subst (λ w. IsJoin cmp eq join w ((key, c.args.value) ∷ []) (whole F c.push_reserved.new.self.items)) c.pass.ensures.whole
-    (subst (IsJoin cmp eq join (whole F B) ((key, c.args.value) ∷ [])) (sym (ap (whole F) (c.push_reserved.ensures.items ∙ ap (λ xs. xs ++ (key, c.args.value) ∷ []) c.reserve_exact.ensures.items) ∙ p.1 ∙ set_new cmp o (whole F B) (length F) key c.args.value p.0))
+    (subst (IsJoin cmp eq join (whole F B) ((key, c.args.value) ∷ []))
+    (sym (ap (whole F) (c.push_reserved.ensures.items ∙ ap (λ xs. xs ++ (key, c.args.value) ∷ []) c.reserve_exact.ensures.items) ∙ p.1
+    ∙ set_new cmp o (whole F B) (length F) key c.args.value p.0))
     (joins_new cmp o eq g.met.V.Eq.laws join g.met.V.Join.joining (whole F B) (length F) key c.args.value up p.0))

@@ -22,11 +22,14 @@ joining-init g c =
       left = came;
       count = search rules;
       taken = refl;
-      gathers = subst (HasGathered cmp g.V.PartialEq.eq g.V.Join.join_of rows []) (sym w) (gathers_none cmp g.met.K.Ord.total g.V.PartialEq.eq g.met.V.Eq.laws g.V.Join.join_of g.met.V.Join.joining rows c.requires.kept.ascending);
+      gathers = subst (HasGathered cmp g.V.PartialEq.eq g.V.Join.join_of rows []) (sym w)
+          (gathers_none cmp g.met.K.Ord.total g.V.PartialEq.eq g.met.V.Eq.laws g.V.Join.join_of g.met.V.Join.joining rows c.requires.kept.ascending);
       unchanged = λ z. w;
       kept = subst (λ x. IsKept cmp g.H.Hasher-2.digest_of (record { rows = x; tree = c.args.tree.now })) (sym w) c.requires.kept;
       rising = subst (IsRising cmp) (sym came) c.requires.rising;
-      low = subst (AllByRecursion (λ (r : g.row.K.Denot × g.row.V.Denot). AllByRecursion (λ (s : g.row.K.Denot × g.row.V.Denot). Below cmp s.0 r.0) c.part.new.rows.items)) (sym came) (low_first cmp g.met.K.Ord.total theirs c.index.result.now c.part.new.rows.items c.index.ensures c.requires.rising c.in-Ok.ensures.below);
+      low = subst (AllByRecursion (λ (r : g.row.K.Denot × g.row.V.Denot). AllByRecursion
+          (λ (s : g.row.K.Denot × g.row.V.Denot). Below cmp s.0 r.0) c.part.new.rows.items)) (sym came)
+          (low_first cmp g.met.K.Ord.total theirs c.index.result.now c.part.new.rows.items c.index.ensures c.requires.rising c.in-Ok.ensures.below);
       room = omega (arith, c.in-Ok.ensures.room, ap length came, c.len-joined.ensures, c.args.theirs.ok.0);
       hasher = refl;
       base = refl;
@@ -39,7 +42,8 @@ returns-then-is_err-clause-cut g c =
     let same = refused c.join_here.result (sym c.is_err.ensures.value ∙ c.if-is_err.true) c.join_here.ensures.unchanged in
     let steps : into_iter_items c.joining.row-iterator ≡ c.in-Some.row ∷ into_iter_items c.next.new.self = c.in-Some.ensures.steps.0 in
     subst (λ now. IsGatheredTo g.K.Ord.cmp g.V.PartialEq.eq g.V.Join.join_of c.args.rows.now.items c.args.theirs.items now c.joining.done) (sym (c.turn_over.ensures.moved ∙ same))
-    (gathered_to g.K.Ord.cmp g.met.K.Ord.total g.V.PartialEq.eq g.V.Join.join_of c.args.rows.now.items c.joining.yielded (into_iter_items c.next.new.self) c.args.theirs.items (whole c.joining.rows.items c.joining.back.items) c.in-Some.row c.joining.done
+    (gathered_to g.K.Ord.cmp g.met.K.Ord.total g.V.PartialEq.eq g.V.Join.join_of c.args.rows.now.items c.joining.yielded
+    (into_iter_items c.next.new.self) c.args.theirs.items (whole c.joining.rows.items c.joining.back.items) c.in-Some.row c.joining.done
     (rw (← steps) i.left) i.taken i.gathers i.unchanged)
 
 pub joining-preserved : goal.joining-preserved
@@ -55,7 +59,8 @@ joining-preserved g c =
       left = given.0;
       count = given.1;
       taken = length-append c.joining.yielded (r ∷ []) ∙ ap (λ n. n + 1) i.taken;
-      gathers = gathers_more cmp g.met.K.Ord.total g.V.PartialEq.eq g.met.V.Eq.laws g.V.Join.join_of g.met.V.Join.joining c.args.rows.now.items c.joining.yielded (whole c.joining.rows.items c.joining.back.items) (whole c.join_here.new.front.items c.join_here.new.back.items) r i.gathers joined;
+      gathers = gathers_more cmp g.met.K.Ord.total g.V.PartialEq.eq g.met.V.Eq.laws g.V.Join.join_of g.met.V.Join.joining c.args.rows.now.items
+          c.joining.yielded (whole c.joining.rows.items c.joining.back.items) (whole c.join_here.new.front.items c.join_here.new.back.items) r i.gathers joined;
       unchanged = λ z. absurd (omega (arith, z));
       kept = c.join_here.ensures.kept;
       rising = up.1;

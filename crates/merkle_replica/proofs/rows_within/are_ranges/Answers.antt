@@ -20,9 +20,17 @@ returns-then-not-is_upto g c =
 
 pub returns-then-not-begins_behind : goal.returns-then-not-begins_behind
 returns-then-not-begins_behind g c =
-    let h : c.testing.i < length c.args.ranges.now = omega arith in
-    (λ t. absurd (false≢true t), λ a. absurd (false≢true (sym c.if-not-begins_behind.true ∙ begins_behind_passes g.K.Ord.cmp g.met.K.Ord.total c.args.ranges.now c.testing.i c.begins_behind.result c.index-ranges-i.result c.begins_behind.ensures.behind c.begins_behind.ensures.first h a)))
+    let h : c.testing.i < length c.args.ranges.now = omega arith in (
+      λ t. absurd (false≢true t),
+      λ a. absurd
+          (false≢true (sym c.if-not-begins_behind.true
+          ∙ begins_behind_passes g.K.Ord.cmp g.met.K.Ord.total c.args.ranges.now c.testing.i c.begins_behind.result c.index-ranges-i.result
+          c.begins_behind.ensures.behind c.begins_behind.ensures.first h a)),
+    )
 
 pub returns : goal.returns
-returns g c =
-    (λ t. are_from g.K.Ord.cmp g.met.K.Ord.total c.args.ranges.now (λ j d h. c.testing.invariant.in_order j d (omega (arith, h, c.testing-test.false))) (λ j d h. c.testing.invariant.apart j d (omega (arith, h, c.testing-test.false))), λ a. refl)
+returns g c = (
+  λ t. are_from g.K.Ord.cmp g.met.K.Ord.total c.args.ranges.now (λ j d h. c.testing.invariant.in_order j d (omega (arith, h, c.testing-test.false)))
+      (λ j d h. c.testing.invariant.apart j d (omega (arith, h, c.testing-test.false))),
+  λ a. refl,
+)

@@ -18,7 +18,9 @@ returns-clause-length g c = let t = c.turning.invariant.taken in omega arith
 
 pub returns-clause-turns : goal.returns-clause-turns
 returns-clause-turns g c = rw g.met.H.RowHasher.laws_are (
-    let (met, turns, all) = ends_converged (laws_of g.K.Ord.cmp g.K.KeyBytes.bytes_of g.H.Hasher-1.digest_of g.V.PartialEq.eq g.V.Join.join_of g.H.Hasher-2.digest_of) g.met.K.Ord.total g.met.V.Eq.laws g.met.V.Join.joining c.page_ranges_of_a_map.ensures.listing
+    let (met, turns, all) = ends_converged
+    (laws_of g.K.Ord.cmp g.K.KeyBytes.bytes_of g.H.Hasher-1.digest_of g.V.PartialEq.eq g.V.Join.join_of g.H.Hasher-2.digest_of) g.met.K.Ord.total
+    g.met.V.Eq.laws g.met.V.Join.joining c.page_ranges_of_a_map.ensures.listing
     c.args.a.now c.args.b.now c.turning.all.items c.turning.a_pulls c.turning.a c.turning.b c.rows_ascend.ensures c.rows_ascend-2.ensures c.turning.invariant.goes in
     (met, turns, λ f n. all f (let t = c.turning.invariant.taken in let k = length-map c.turning.all.items answer_of in omega arith)))
 
@@ -29,7 +31,8 @@ pub turning-preserved : goal.turning-preserved
 turning-preserved g c =
     let laws = laws_of g.K.Ord.cmp g.K.KeyBytes.bytes_of g.H.Hasher-1.digest_of g.V.PartialEq.eq g.V.Join.join_of g.H.Hasher-2.digest_of in
     record {
-      goes = goes_on laws c.args.a.now c.args.b.now c.turning.a c.turning.b c.turning.all.items c.turning.a_pulls c.turn.new.a c.turn.new.b c.push_reserved.new.self.items c.in-Ok-turn.pulled c.push_reserved.ensures.items
+      goes = goes_on laws c.args.a.now c.args.b.now c.turning.a c.turning.b c.turning.all.items c.turning.a_pulls c.turn.new.a c.turn.new.b
+          c.push_reserved.new.self.items c.in-Ok-turn.pulled c.push_reserved.ensures.items
           c.turn.ensures.a_settings c.turn.ensures.b_settings (rw g.met.H.RowHasher.laws_are at c.in-Ok-turn.ensures.done) c.turning.invariant.goes;
       taken = let t = c.turning.invariant.taken in ap length c.push_reserved.ensures.items ∙ length-append c.turning.all.items (c.in-Ok-turn.pulled ∷ []) ∙ omega arith;
       counted = let t = c.turning.invariant.counted in let u = c.push_reserved.ensures.len in u ∙ omega arith;
@@ -39,4 +42,5 @@ turning-preserved g c =
 pub returns-in-Err-clause-stopped : goal.returns-in-Err-clause-stopped
 returns-in-Err-clause-stopped g c = rw g.met.H.RowHasher.laws_are (
     stops_here (laws_of g.K.Ord.cmp g.K.KeyBytes.bytes_of g.H.Hasher-1.digest_of g.V.PartialEq.eq g.V.Join.join_of g.H.Hasher-2.digest_of)
-    c.args.a.now c.args.b.now c.turning.a c.turning.b c.turning.all.items c.turning.a_pulls c.in-Err.fault c.turn.new.a c.turn.new.b (rw g.met.H.RowHasher.laws_are at c.in-Err.ensures.refused) c.turning.invariant.goes.turns)
+    c.args.a.now c.args.b.now c.turning.a c.turning.b c.turning.all.items c.turning.a_pulls c.in-Err.fault c.turn.new.a c.turn.new.b
+    (rw g.met.H.RowHasher.laws_are at c.in-Err.ensures.refused) c.turning.invariant.goes.turns)

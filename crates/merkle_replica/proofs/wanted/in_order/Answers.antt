@@ -12,12 +12,14 @@ once_each-requires g c =
     let cmp = g.K.Ord.cmp in
     let o = g.met.K.Ord.total in
     subst (λ ks. NoneFalls cmp (keys_of ks)) (sym c.deref.ensures.value)
-    (sorted_keys cmp o c.sort_by.new.self.items (c.in_ok-sort_by.ensures.sorted (lower_key cmp o) (keys_compare cmp o) (always_returns_same _ _ _ (λ a r f called. (ap is_lt (search rules), search rules)))))
+    (sorted_keys cmp o c.sort_by.new.self.items
+    (c.in_ok-sort_by.ensures.sorted (lower_key cmp o) (keys_compare cmp o) (always_returns_same _ _ _ (λ a r f called. (ap is_lt (search rules), search rules)))))
 
 pub returns : goal.returns
 returns g c =
     let cmp = g.K.Ord.cmp in
     let o = g.met.K.Ord.total in
     IfOk-weaker c.once_each.result _ _
-    (λ once r. once_permuted cmp o c.args.keys.items c.sort_by.new.self.items (keys_of once.items) c.sort_by.ensures.permutation (subst (λ ks. IsOnceEach cmp (keys_of ks) (keys_of once.items)) c.deref.ensures.value r))
+    (λ once r. once_permuted cmp o c.args.keys.items c.sort_by.new.self.items (keys_of once.items) c.sort_by.ensures.permutation
+    (subst (λ ks. IsOnceEach cmp (keys_of ks) (keys_of once.items)) c.deref.ensures.value r))
     c.once_each.ensures

@@ -21,5 +21,6 @@ keys-preserved g c =
       | else-begins_anew w ↦
           let k = key_of ks i c.keys-test.true in
           subst (λ once. IsOnceEach cmp (keys_of (take (i + 1) ks)) (keys_of once)) (sym (ap (λ v. v.items) w.once-is))
-          (once_stays cmp o ks i (keys_of c.keys.once.items) c.requires c.keys-test.true c.keys.invariant k.0 c.begins_anew.result k.1 c.begins_anew.ensures.above c.begins_anew.ensures.first w.if-begins_anew.false)
+          (once_stays cmp o ks i (keys_of c.keys.once.items) c.requires c.keys-test.true c.keys.invariant k.0 c.begins_anew.result k.1
+          c.begins_anew.ensures.above c.begins_anew.ensures.first w.if-begins_anew.false)
     ]

@@ -18,7 +18,8 @@ returns-in_ok-push-2 g c =
     let ts = c.args.edge.now.items in
     let h = held_of c.in_ok-low.low in
     let x : Node g.row.K.Denot g.row.D.Denot = record { lt = h; key = c.args.key; digest = c.args.digest } in
-    λ lev s a. append-new lev c.args.level c.args.key c.args.digest ts us c.push-else-last_level-from-2.new.self.items (page c.args.level None (row c.push-else-last_level-from.new.self.items nothing)) h
+    λ lev s a. append-new lev c.args.level c.args.key c.args.digest ts us c.push-else-last_level-from-2.new.self.items
+    (page c.args.level None (row c.push-else-last_level-from.new.self.items nothing)) h
     (omega (arith, c.if-last_level-from.false, c.last_level.ensures, ap (last_level 256) c.deref.ensures.value, c.from-2.ensures, c.from.ensures, c.in_ok-low.ensures.levels)) s
     (ap (λ es. page c.args.level None (row es nothing)) (c.in_ok-push.ensures.items ∙ ap (λ es. es ++ x ∷ []) c.new-nodes.ensures.items))
     c.in_ok-push-2.ensures.items (subst (λ n. ClosesPages lev n ts us h) c.from.ensures (c.in_ok-low.ensures.closed lev a))

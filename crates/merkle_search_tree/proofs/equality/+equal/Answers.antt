@@ -13,7 +13,8 @@ same_page-returns-then-len g t c =
     let o = c.b.inside in
     let C = option_eq (pointwise nat_eq) in
     let no : nodes_eq C g.K.PartialEq.eq g.D.PartialEq.eq s.nodes.items o.nodes.items ≡ false =
-    false_from_ne_true _ (λ e. let l = nodes_eq-length C g.K.PartialEq.eq g.D.PartialEq.eq s.nodes.items o.nodes.items e in c.if-len.true (omega (arith, l, c.len.ensures, c.len-2.ensures, s.nodes.ok.0, o.nodes.ok.0))) in
+    false_from_ne_true _ (λ e. let l = nodes_eq-length C g.K.PartialEq.eq g.D.PartialEq.eq s.nodes.items o.nodes.items e in c.if-len.true
+    (omega (arith, l, c.len.ensures, c.len-2.ensures, s.nodes.ok.0, o.nodes.ok.0))) in
     sym (tree_eq-not C g.K.PartialEq.eq g.D.PartialEq.eq s.level o.level s.tree_hash o.tree_hash s.nodes.items o.nodes.items (held_of s.high_page) (held_of o.high_page) no)
     ∙ (λ i. tree_eq C g.K.PartialEq.eq g.D.PartialEq.eq (c.a.view_is i) (c.b.view_is i))
 

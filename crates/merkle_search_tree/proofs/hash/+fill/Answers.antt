@@ -47,9 +47,11 @@ Page+N+K::fill-fill_below-requires g t c κs within =
     let rows = row_of_caches c.args.format g.K.KeyBytes.bytes_of s.level s.tree_hash (row s.nodes.items (held_of s.high_page)) c.args.self.now c.self.view_is c.requires in
     let old = reads_old (node_filled c.args.format g.K.KeyBytes.bytes_of) s.nodes.items c.nodes.self-inside.nodes.items c.nodes.i c.index_mut-node.result.now r inv.0 c.index_mut-node.ensures.value in
     let holds : HeldCachesHold c.args.format g.K.KeyBytes.bytes_of (held_of c.node.inside.lt_pointer) =
-    subst (λ (e : Node g.row.K.Denot (List ℕ)). HeldCachesHold c.args.format g.K.KeyBytes.bytes_of e.lt) (sym (c.node.view_is ∙ old)) (caches_at c.args.format g.K.KeyBytes.bytes_of s.nodes.items (held_of s.high_page) rows c.nodes.i c.index_mut-node.result.now r) in
+    subst (λ (e : Node g.row.K.Denot (List ℕ)). HeldCachesHold c.args.format g.K.KeyBytes.bytes_of e.lt) (sym (c.node.view_is ∙ old))
+    (caches_at c.args.format g.K.KeyBytes.bytes_of s.nodes.items (held_of s.high_page) rows c.nodes.i c.index_mut-node.result.now r) in
     let small = size_at s.nodes.items (held_of s.high_page) c.nodes.i c.index_mut-node.result.now r in
-    let same : held_size (held_of c.node.inside.lt_pointer) ≡ held_size (get_or s.nodes.items c.nodes.i c.index_mut-node.result.now).lt = ap (λ (e : Node g.row.K.Denot (List ℕ)). held_size e.lt) (c.node.view_is ∙ old) in
+    let same : held_size (held_of c.node.inside.lt_pointer) ≡ held_size (get_or s.nodes.items c.nodes.i c.index_mut-node.result.now).lt =
+    ap (λ (e : Node g.row.K.Denot (List ℕ)). held_size e.lt) (c.node.view_is ∙ old) in
     let whole : row_size (row s.nodes.items (held_of s.high_page)) + 1 ≡ tree_size c.args.self.now = omega (arith, ap tree_size c.self.view_is) in
     (omega (arith, small, same, whole, c.decreases), (search rules, (search rules, (search rules, holds))))
 
@@ -59,7 +61,8 @@ step : {K : Type 0} (format : PageFormat) (b : K → List ℕ) (head : List ℕ)
     → Holds sip zero_key (head ++ flat_map (node_stream format b) (take (i + 1) es))
 step format b head es i sip x r e h =
     let f = flat_map (node_stream format b) (take i es) in
-    let joined : (((head ++ f) ++ held_stream format b x.lt) ++ key_bytes format (b x.key)) ++ x.digest ≡ head ++ (f ++ (held_stream format b x.lt ++ key_bytes format (b x.key) ++ x.digest)) = simp append_assoc in
+    let joined : (((head ++ f) ++ held_stream format b x.lt) ++ key_bytes format (b x.key)) ++ x.digest ≡ head ++
+    (f ++ (held_stream format b x.lt ++ key_bytes format (b x.key) ++ x.digest)) = simp append_assoc in
     let more = flat_map_more (node_stream format b) [] (take i es) x ∙ ap (flat_map (node_stream format b)) (ap (λ y. take i es ++ y ∷ []) e ∙ sym (take_more es i x r)) in
     subst (Holds sip zero_key) (joined ∙ ap (λ v. head ++ v) more) h
 
@@ -142,7 +145,9 @@ Page+N+K::fill-returns-clause-pages g t c =
     let none = drop_all c.nodes.i s.nodes.items r in
     let items : c.nodes.self-inside.nodes.items ≡ map (node_filled format b) s.nodes.items = rw (inv.0, all, none) (append-nil _) in
     let high_is : held_of c.fill_below-2.new.held ≡ held_with_digests format b (held_of s.high_page) = c.fill_below-2.ensures.pages ∙ ap (λ o. held_with_digests format b (held_of o)) inv.4 in
-    simp (inv.3, digest_is, items, high_is) (ap (page s.level (Some (page_digest format b (page s.level s.tree_hash (row s.nodes.items (held_of s.high_page)))))) (sym (row_filled-row format b s.nodes.items (held_of s.high_page))) ∙ ap (tree_with_digests format b) c.self.view_is)
+    simp (inv.3, digest_is, items, high_is)
+    (ap (page s.level (Some (page_digest format b (page s.level s.tree_hash (row s.nodes.items (held_of s.high_page))))))
+    (sym (row_filled-row format b s.nodes.items (held_of s.high_page))) ∙ ap (tree_with_digests format b) c.self.view_is)
 
 pub Page+N+K::fill-returns-clause-count : goal.Page+N+K::fill-returns-clause-count
 Page+N+K::fill-returns-clause-count g t c =

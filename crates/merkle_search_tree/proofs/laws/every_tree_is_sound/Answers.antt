@@ -16,7 +16,8 @@ pub returns-clause-tree : goal.returns-clause-tree
 returns-clause-tree g c = ((returns-clause-sound g c).canonical, same_map-own g.K.Ord.cmp g.met.K.Ord.total (map_of c.args.tree.now))
 
 pub returns-clause-defined : goal.returns-clause-defined
-returns-clause-defined g c = sound_defined g.K.Ord.cmp g.met.K.Ord.total g.K.PartialEq.eq g.met.K.Ord.matches_eq g.H.Hasher.digest_of g.met.H.Hasher.respects_eq g.K.KeyBytes.bytes_of c.args.tree.now (returns-clause-sound g c)
+returns-clause-defined g c = sound_defined g.K.Ord.cmp g.met.K.Ord.total g.K.PartialEq.eq g.met.K.Ord.matches_eq g.H.Hasher.digest_of g.met.H.Hasher.respects_eq
+    g.K.KeyBytes.bytes_of c.args.tree.now (returns-clause-sound g c)
 
 pub returns-clause-digest : goal.returns-clause-digest
 returns-clause-digest g c =

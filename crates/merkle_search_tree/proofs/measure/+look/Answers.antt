@@ -26,5 +26,6 @@ Page+N+K::look-returns g t c =
     let s = c.self.inside in
     let end : length s.nodes.items ≤ c.nodes.i = omega (arith, c.nodes-test.false, c.len-i-end.ensures, s.nodes.ok.0) in
     let all : AllByRecursion (NodeIsHeld b g.row.N) s.nodes.items = subst (AllByRecursion (NodeIsHeld b g.row.N)) (take_all c.nodes.i s.nodes.items end) c.nodes.invariant in
-    let few : length (row_nodes (row s.nodes.items (held_of s.high_page))) < 2 ^ 64 = omega (arith, ap length (row_nodes-row s.nodes.items (held_of s.high_page)), c.len-i-end.ensures, c.len-i-end.type_inv, s.nodes.ok.0) in
+    let few : length (row_nodes (row s.nodes.items (held_of s.high_page))) < 2 ^ 64 =
+    omega (arith, ap length (row_nodes-row s.nodes.items (held_of s.high_page)), c.len-i-end.ensures, c.len-i-end.type_inv, s.nodes.ok.0) in
     subst (IsHeldInMemory b g.row.N) c.self.view_is (few, RowIsHeld-row b g.row.N s.nodes.items (held_of s.high_page) all c.look_below-2.ensures)

@@ -17,5 +17,6 @@ returns-then-page-eq0-clause-pages g c =
     let falls : RowFalls s.level (row s.nodes.items (held_of s.high_page)) = subst (λ (t : Tree g.row.K.Denot g.row.D.Denot). LevelsFall t) (sym c.page.view_is) c.requires.falls in
     let lowest = subst (λ l. RowFalls l (row s.nodes.items (held_of s.high_page))) c.if-page-eq0.true falls in
     ap (λ (t : Tree g.row.K.Denot g.row.D.Denot). pages_below t ++ pages_left c.args.path.now.items) (sym c.page.view_is)
-    ∙ ap (λ xs. xs ++ pages_left c.args.path.now.items) (no-pages (row s.nodes.items (held_of s.high_page)) lowest ∙ sym (no-pages (high (held_of s.high_page)) (high-falls 0 s.nodes.items (held_of s.high_page) lowest)))
+    ∙ ap (λ xs. xs ++ pages_left c.args.path.now.items)
+    (no-pages (row s.nodes.items (held_of s.high_page)) lowest ∙ sym (no-pages (high (held_of s.high_page)) (high-falls 0 s.nodes.items (held_of s.high_page) lowest)))
     ∙ c.first_page.ensures.pages

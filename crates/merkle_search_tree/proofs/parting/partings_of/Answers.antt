@@ -30,7 +30,13 @@ pub path-smaller : goal.path-smaller
 path-smaller g c =
     let t = c.in-Some.page.value in
     let whole = ap (λ o. held_size (held_of o)) c.in-Some.is in
-    omega (arith, whole, ap held_size (c.held_at-rest.ensures ∙ ap (λ x. first_of (row_drop c.search-spot.result.at (row_of_page x))) c.deref-in-Some-3.ensures), page_held-size t c.search-spot.result.at)
+    omega (
+      arith,
+      whole,
+      ap held_size
+          (c.held_at-rest.ensures ∙ ap (λ x. first_of (row_drop c.search-spot.result.at (row_of_page x))) c.deref-in-Some-3.ensures),
+      page_held-size t c.search-spot.result.at,
+    )
 
 pub path-preserved : goal.path-preserved
 path-preserved g c =
@@ -52,7 +58,8 @@ path-preserved g c =
       λ cs f.
           subst (λ xs. PartingsFit cmp key (held_of c.args.held.now) xs) (sym (append_assoc c.path.partings.items (parting ∷ []) cs) ∙ ap (λ xs. xs ++ cs) (sym c.in_ok-push.ensures.items))
           (c.path.invariant.1 (parting ∷ cs) (subst (λ h. PartingsFit cmp key h (parting ∷ cs)) (sym is)
-          (partings-more cmp key t at parting cs found (subst (λ n. PartsNodes n parting) len c.in_ok-parting.ensures.parts) (subst (λ n. parting_place n parting ≡ at) len c.in_ok-parting.ensures.place) (subst (λ h. PartingsFit cmp key h cs) rest f)))),
+          (partings-more cmp key t at parting cs found (subst (λ n. PartsNodes n parting) len c.in_ok-parting.ensures.parts)
+          (subst (λ n. parting_place n parting ≡ at) len c.in_ok-parting.ensures.place) (subst (λ h. PartingsFit cmp key h cs) rest f)))),
     )
 
 pub returns : goal.returns

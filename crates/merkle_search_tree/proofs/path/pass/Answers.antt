@@ -25,7 +25,8 @@ nodes-high old vs v n others e f z =
 pages-high : {K D : Type 0} (old vs : List (Visit K D)) (v : Visit K D) (n : Node K D) (others : List (Node K D)) → old ≡ vs ++ v ∷ [] → v.nodes.now ≡ n ∷ others → length others ≡ 0
     → pages_left old ≡ held_pages (held_of v.high_page.now) ++ pages_left vs
 pages-high old vs v n others e f z =
-    ap pages_left e ∙ pages_left-push vs v ∙ ap (λ es. behind_first (row es (held_of v.high_page.now)) ++ pages_left vs) f ∙ ap (λ xs. xs ++ pages_left vs) (none-pages others (held_of v.high_page.now) z)
+    ap pages_left e ∙ pages_left-push vs v ∙ ap (λ es. behind_first (row es (held_of v.high_page.now)) ++ pages_left vs) f
+    ∙ ap (λ xs. xs ++ pages_left vs) (none-pages others (held_of v.high_page.now) z)
 
 nodes-next : {K D : Type 0} (old vs new : List (Visit K D)) (v : Visit K D) (n : Node K D) (others : List (Node K D)) (lt : Held K D) (d : Node K D) → old ≡ vs ++ v ∷ [] → v.nodes.now ≡ n ∷ others
     → 0 < length others → lt ≡ (get_or others 0 d).lt → rest_of new ≡ from_first (row others (held_of v.high_page.now)) ++ rest_of vs → rest_of old ≡ n ∷ (held_in_order lt ++ rest_of new)
@@ -98,8 +99,13 @@ returns-clause-room g c =
     let v = c.in_ok-visit.visit in
     let others = c.in-Some.parts.1.now in
     let l = last _ _ _ c.pop.new.self.items v c.requires c.in_ok-visit.ensures.items c.pop.ensures.capacity in
-    let rows : RowFalls v.level (row others (held_of v.high_page.now)) = (subst (λ (es : List (Node g.row.K.Denot g.row.D.Denot)). RowFalls v.level (row es (held_of v.high_page.now))) c.in-Some.ensures.cases.0 l.1).1 in
+    let rows : RowFalls v.level (row others (held_of v.high_page.now)) =
+    (subst (λ (es : List (Node g.row.K.Denot g.row.D.Denot)). RowFalls v.level (row es (held_of v.high_page.now))) c.in-Some.ensures.cases.0 l.1).1 in
     let ne = eqb-false (length others) 0 (sym c.is_empty.ensures ∙ c.if-is_empty.false) in
     let some : 0 < length others = omega (arith, ne) in
-    let is = c.next.view_is ∙ c.index-others-0.is in
-    (v.level, subst (λ (n : Node g.row.K.Denot g.row.D.Denot). HeldFalls v.level n.lt) (sym is) (at-falls v.level others (held_of v.high_page.now) 0 c.index-others-0.result some rows), c.push.ensures.room_left)
+    let is = c.next.view_is ∙ c.index-others-0.is in (
+      v.level,
+      subst (λ (n : Node g.row.K.Denot g.row.D.Denot). HeldFalls v.level n.lt) (sym is)
+          (at-falls v.level others (held_of v.high_page.now) 0 c.index-others-0.result some rows),
+      c.push.ensures.room_left,
+    )

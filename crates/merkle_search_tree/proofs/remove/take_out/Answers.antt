@@ -21,7 +21,8 @@ returns-in-Err-clause-nodes_unchanged g c =
     let whole = back ∙ ap (λ ys. take (suc i) (slice_set es i e) ++ ys) same in
     let x = c.index_mut-node.result.now in
     let was = c.node.view_is ∙ c.index_mut-node.ensures.value in
-    let is = c.node-in-Err.view_is ∙ c.index_mut-node-in-Err.ensures.value ∙ ap (λ ys. get_or ys i c.index_mut-node-in-Err.result.now) whole ∙ got_at es i e (drop (suc i) es) c.index_mut-node-in-Err.result.now within in
+    let is = c.node-in-Err.view_is ∙ c.index_mut-node-in-Err.ensures.value ∙ ap (λ ys. get_or ys i c.index_mut-node-in-Err.result.now) whole
+    ∙ got_at es i e (drop (suc i) es) c.index_mut-node-in-Err.result.now within in
     let low = c.in-Err.ensures.lower_unchanged ∙ ap held_of c.replace-low.ensures.value ∙ ap (λ (v : Node g.row.K.Denot g.row.D.Denot). v.lt) was in
     let key = ap (λ (v : Node g.row.K.Denot g.row.D.Denot). v.key) is ∙ ap (λ (v : Node g.row.K.Denot g.row.D.Denot). v.key) was in
     let digest = ap (λ (v : Node g.row.K.Denot g.row.D.Denot). v.digest) is ∙ ap (λ (v : Node g.row.K.Denot g.row.D.Denot). v.digest) was in
@@ -57,7 +58,8 @@ returns-clause-joined g c =
     let within : i < length es = omega (arith, c.requires, c.args.nodes.now.ok.0) in
     let one : i + 1 ≡ suc i = omega arith in
     let lent = tail_lent es c.deref_mut.result.now i (i + 1) e c.deref_mut.ensures.value within one in
-    let back = tail_back es c.deref_mut.result.now i (i + 1) e t c.args.nodes.now.len c.deref_mut.ensures.value one (omega (arith, c.args.nodes.now.ok.0)) within (c.in-Ok.ensures.len ∙ ap length lent) in
+    let back = tail_back es c.deref_mut.result.now i (i + 1) e t c.args.nodes.now.len c.deref_mut.ensures.value one
+    (omega (arith, c.args.nodes.now.ok.0)) within (c.in-Ok.ensures.len ∙ ap length lent) in
     let low = ap held_of c.replace-low.ensures.value ∙ ap (λ (v : Node g.row.K.Denot g.row.D.Denot). v.lt) (c.node.view_is ∙ c.index_mut-node.ensures.value) in
     let joined = c.in-Ok.ensures.joined ∙ (λ j. row_append (high (low j)) (row (lent j) h)) in
     ap (λ ys. row ys (held_of c.join_first.new.high_page)) (c.remove-node.ensures.items ∙ ap (λ ys. remove ys i) back ∙ removed_at es i e t within)
@@ -74,7 +76,8 @@ returns-clause-taken g c =
     let within : i < length es = omega (arith, c.requires, c.args.nodes.now.ok.0) in
     let one : i + 1 ≡ suc i = omega arith in
     let lent = tail_lent es c.deref_mut.result.now i (i + 1) e c.deref_mut.ensures.value within one in
-    let back = tail_back es c.deref_mut.result.now i (i + 1) e t c.args.nodes.now.len c.deref_mut.ensures.value one (omega (arith, c.args.nodes.now.ok.0)) within (c.in-Ok.ensures.len ∙ ap length lent) in
+    let back = tail_back es c.deref_mut.result.now i (i + 1) e t c.args.nodes.now.len c.deref_mut.ensures.value one
+    (omega (arith, c.args.nodes.now.ok.0)) within (c.in-Ok.ensures.len ∙ ap length lent) in
     let is = c.node-2.view_is ∙ c.remove-node.ensures.value ∙ ap (λ ys. get_or ys i c.remove-node.result) back ∙ got_at es i e t c.remove-node.result within in
     let was = c.node.view_is ∙ c.index_mut-node.ensures.value in
     ap (λ (v : Node g.row.K.Denot g.row.D.Denot). Some (v.key, v.digest)) is ∙ ap (λ (v : Node g.row.K.Denot g.row.D.Denot). Some (v.key, v.digest)) was ∙ sym (pair_at-is es i x within)

@@ -22,7 +22,8 @@ returns-then-spot-clause-found g c =
     let apart = c.if-spot-nodes.false in
     let within = spot.ensures.within in
     sym (ap (λ b. place_after cmp (bound_of b) es) c.in-Some.is
-    ∙ behind_there cmp c.in-Some.key.now es spot.result.at spot.result.is_there spot.ensures.found spot.ensures.there g.met.K.Ord.total c.requires.ascending (omega (arith, apart, within)) c.if-spot.true)
+    ∙ behind_there cmp c.in-Some.key.now es spot.result.at spot.result.is_there spot.ensures.found spot.ensures.there g.met.K.Ord.total c.requires.ascending
+    (omega (arith, apart, within)) c.if-spot.true)
 
 pub returns-else-spot-clause-found : goal.returns-else-spot-clause-found
 returns-else-spot-clause-found g c =

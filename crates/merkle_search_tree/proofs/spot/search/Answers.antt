@@ -10,7 +10,15 @@ use Rattle.merkle_tree_theory.proofs.Gaps.{get_or_same}
 use Rattle.merkle_search_tree.proofs.spot.search.Goals as goal
 
 pub halves-init : goal.halves-init
-halves-init g c = (omega arith, place-within g.K.Ord.cmp c.args.key.now c.args.nodes.now, omega arith, λ digits h. (omega arith, simp unary_clauses h), λ e r. absurd (omega arith), λ n h. subst (λ m. ComparesByHalves g.K.Ord.cmp c.args.key.now m c.args.nodes.now) (omega arith) (subst (ComparesByHalves g.K.Ord.cmp c.args.key.now n) (between-all c.args.nodes.now) h))
+halves-init g c = (
+  omega arith,
+  place-within g.K.Ord.cmp c.args.key.now c.args.nodes.now,
+  omega arith,
+  λ digits h. (omega arith, simp unary_clauses h),
+  λ e r. absurd (omega arith),
+  λ n h. subst (λ m. ComparesByHalves g.K.Ord.cmp c.args.key.now m c.args.nodes.now) (omega arith)
+      (subst (ComparesByHalves g.K.Ord.cmp c.args.key.now n) (between-all c.args.nodes.now) h),
+)
 
 pub overflow_add-compared : goal.overflow_add-compared
 overflow_add-compared g c = let few = c.halves.invariant.3 64 (search rules) in omega (arith, few.0)
@@ -27,10 +35,19 @@ halves-preserved-in-Greater g c =
     let within : middle < length es = omega (arith, inv.2, c.halves-test.true) in
     let x = c.index-nodes-middle.result in
     let is = get_or_read es _ _ within c.index-nodes-middle.is x in
-    let gt : is_gt (cmp key (get_or es middle x).key) ≡ true = ap (λ (e : Node g.row.K.Denot g.row.D.Denot). is_gt (cmp key e.key)) (sym is ∙ sym c.node.view_is) ∙ ap is_gt (sym c.cmp.ensures ∙ c.in-Greater.is) in
+    let gt : is_gt (cmp key (get_or es middle x).key) ≡ true =
+    ap (λ (e : Node g.row.K.Denot g.row.D.Denot). is_gt (cmp key e.key)) (sym is ∙ sym c.node.view_is) ∙ ap is_gt (sym c.cmp.ensures ∙ c.in-Greater.is) in
     let greater : cmp key x.key ≡ Greater = ap (λ (e : Node g.row.K.Denot g.row.D.Denot). cmp key e.key) (sym c.node.view_is) ∙ sym c.cmp.ensures ∙ c.in-Greater.is in
-    let above = place-above cmp key g.met.K.Ord.total es middle x c.requires.ascending within gt in
-    (omega (arith, above), inv.1, inv.2, λ digits h. halved_more (high - low) _ c.halves.compared digits (omega (arith, c.halves-test.true)) (inv.3 digits h) (omega arith), inv.4, λ n h. subst (λ m. ComparesByHalves cmp key m es) (omega arith) (inv.5 (suc n) (one_greater cmp key es low high n x c.halves-test.true inv.2 is greater h)))
+    let above = place-above cmp key g.met.K.Ord.total es middle x c.requires.ascending within gt in (
+      omega (arith, above),
+      inv.1,
+      inv.2,
+      λ digits h. halved_more (high - low) _ c.halves.compared digits (omega (arith, c.halves-test.true)) (inv.3 digits h)
+          (omega arith),
+      inv.4,
+      λ n h. subst (λ m. ComparesByHalves cmp key m es) (omega arith)
+          (inv.5 (suc n) (one_greater cmp key es low high n x c.halves-test.true inv.2 is greater h)),
+    )
 
 pub halves-preserved : goal.halves-preserved
 halves-preserved g c =
@@ -44,7 +61,8 @@ halves-preserved g c =
     let within : middle < length es = omega (arith, inv.2, c.halves-test.true) in
     let x = c.index-nodes-middle.result in
     let is = get_or_read es _ _ within c.index-nodes-middle.is x in
-    let not : is_gt (cmp key (get_or es middle x).key) ≡ false = ap (λ (e : Node g.row.K.Denot g.row.D.Denot). is_gt (cmp key e.key)) (sym is ∙ sym c.node.view_is) ∙ ap is_gt (sym c.cmp.ensures ∙ c.in-Less.is) in
+    let not : is_gt (cmp key (get_or es middle x).key) ≡ false =
+    ap (λ (e : Node g.row.K.Denot g.row.D.Denot). is_gt (cmp key e.key)) (sym is ∙ sym c.node.view_is) ∙ ap is_gt (sym c.cmp.ensures ∙ c.in-Less.is) in
     let less : cmp key x.key ≡ Less = ap (λ (e : Node g.row.K.Denot g.row.D.Denot). cmp key e.key) (sym c.node.view_is) ∙ sym c.cmp.ensures ∙ c.in-Less.is in
     let upto = place-upto cmp key es middle x within not in (
       inv.0,

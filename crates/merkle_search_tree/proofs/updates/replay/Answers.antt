@@ -28,7 +28,8 @@ updates-preserved g c =
           let gone = c.in-Some.ensures.steps.1 in
           let short = ap length steps in
           omega arith;
-      answers = ap length c.in_ok-push.ensures.items ∙ length-append c.updates.accepted.items (c.carry_out.result ∷ []) ∙ ap (λ (n : ℕ). n + 1) kept.answers ∙ sym (length-append c.updates.yielded (u ∷ []));
+      answers = ap length c.in_ok-push.ensures.items ∙ length-append c.updates.accepted.items (c.carry_out.result ∷ []) ∙ ap (λ (n : ℕ). n + 1) kept.answers
+          ∙ sym (length-append c.updates.yielded (u ∷ []));
       free = subst (FreeAreAccepted cmp (d c.args.builder.hasher) [] (c.updates.yielded ++ u ∷ [])) (sym c.in_ok-push.ensures.items)
           (free-more cmp (d c.args.builder.hasher) [] c.updates.yielded u c.updates.accepted.items c.carry_out.result kept.answers kept.free
           (subst (λ (m : List (g.row.K.Denot × List ℕ)). IsAcceptedIfFree cmp (d c.args.builder.hasher) m u c.carry_out.result) kept.map
@@ -55,7 +56,8 @@ all_done done (x ∷ left) all e h = absurd (omega (arith, h))
 
 pub returns-clause-free : goal.returns-clause-free
 returns-clause-free g c =
-    subst (λ (us : List _). FreeAreAccepted g.K.Ord.cmp (g.H.Hasher-2.digest_of c.args.builder.hasher) [] us c.updates.accepted.items) (all_done _ _ _ c.updates.invariant.left (sym c.updates.invariant.count ∙ c.in-None.ensures.steps.0)) c.updates.invariant.free
+    subst (λ (us : List _). FreeAreAccepted g.K.Ord.cmp (g.H.Hasher-2.digest_of c.args.builder.hasher) [] us c.updates.accepted.items)
+    (all_done _ _ _ c.updates.invariant.left (sym c.updates.invariant.count ∙ c.in-None.ensures.steps.0)) c.updates.invariant.free
 
 pub returns-clause-pages : goal.returns-clause-pages
 returns-clause-pages g c =
@@ -63,20 +65,26 @@ returns-clause-pages g c =
     let d = g.H.Hasher-1.digest_of in
     let s = c.updates.tree in
     let m : map_of s ≡ map_after cmp (g.H.Hasher-2.digest_of c.args.builder.hasher) [] c.args.updates.items c.updates.accepted.items =
-    subst (λ (us : List _). map_of s ≡ map_after cmp (g.H.Hasher-2.digest_of c.args.builder.hasher) [] us c.updates.accepted.items) (all_done _ _ _ c.updates.invariant.left (sym c.updates.invariant.count ∙ c.in-None.ensures.steps.0)) c.updates.invariant.map in
+    subst (λ (us : List _). map_of s ≡ map_after cmp (g.H.Hasher-2.digest_of c.args.builder.hasher) [] us c.updates.accepted.items)
+    (all_done _ _ _ c.updates.invariant.left (sym c.updates.invariant.count ∙ c.in-None.ensures.steps.0)) c.updates.invariant.map in
     subst (λ (n : List (g.row.K.Denot × List ℕ)). SamePages cmp s.root (tree_of (λ k. level_of (d c.args.builder.hasher k) c.args.builder.base) n)) m
     (subst (λ (b : ℕ). SamePages cmp s.root (tree_of (λ k. level_of (d c.args.builder.hasher k) b) (map_of s))) c.updates.invariant.base
     (subst (λ h. SamePages cmp s.root (tree_of (λ k. level_of (d h k) s.base) (map_of s))) c.updates.invariant.hasher c.every_tree_is_sound.ensures.defined))
 
 pub returns-clause-ranges : goal.returns-clause-ranges
 returns-clause-ranges g c =
-    same_ranges g.K.Ord.cmp c.args.builder.format g.K.KeyBytes.bytes_of (same_bytes g.K.Ord.cmp g.K.PartialEq.eq g.met.K.Ord.matches_eq g.K.KeyBytes.bytes_of g.met.K.KeyBytes.bytes_respect_eq) _ _ (returns-clause-pages g c)
+    same_ranges g.K.Ord.cmp c.args.builder.format g.K.KeyBytes.bytes_of
+    (same_bytes g.K.Ord.cmp g.K.PartialEq.eq g.met.K.Ord.matches_eq g.K.KeyBytes.bytes_of g.met.K.KeyBytes.bytes_respect_eq) _ _ (returns-clause-pages g c)
 
 pub returns-clause-root_hash : goal.returns-clause-root_hash
 returns-clause-root_hash g c =
     let bytes_of = g.K.KeyBytes.bytes_of in
     let e : is_some c.updates.tree.root_hash ≡ hashed_after g.K.Ord.cmp (g.H.Hasher-2.digest_of c.args.builder.hasher) [] false c.args.updates.items c.updates.accepted.items =
-    subst (λ (us : List _). is_some c.updates.tree.root_hash ≡ hashed_after g.K.Ord.cmp (g.H.Hasher-2.digest_of c.args.builder.hasher) [] false us c.updates.accepted.items) (all_done _ _ _ c.updates.invariant.left (sym c.updates.invariant.count ∙ c.in-None.ensures.steps.0)) c.updates.invariant.hashed in
+    subst (λ (us : List _). is_some c.updates.tree.root_hash ≡ hashed_after g.K.Ord.cmp
+    (g.H.Hasher-2.digest_of c.args.builder.hasher) [] false us c.updates.accepted.items)
+    (all_done _ _ _ c.updates.invariant.left (sym c.updates.invariant.count ∙ c.in-None.ensures.steps.0)) c.updates.invariant.hashed in
     hashed_is _ c.updates.tree.root_hash _ _ _ e
-    (subst (λ f. MatchOption c.updates.tree.root_hash ⊤ (λ digest. (digest ≡ page_digest f bytes_of c.updates.tree.root) × (uncached_pages c.updates.tree.root ≡ 0))) c.updates.invariant.format c.a_hashed_tree_has_every_digest.ensures)
+    (subst (λ f. MatchOption c.updates.tree.root_hash ⊤
+    (λ digest. (digest ≡ page_digest f bytes_of c.updates.tree.root)
+    × (uncached_pages c.updates.tree.root ≡ 0))) c.updates.invariant.format c.a_hashed_tree_has_every_digest.ensures)
     (same_digest g.K.Ord.cmp c.args.builder.format bytes_of (same_bytes g.K.Ord.cmp g.K.PartialEq.eq g.met.K.Ord.matches_eq bytes_of g.met.K.KeyBytes.bytes_respect_eq) _ _ (returns-clause-pages g c))

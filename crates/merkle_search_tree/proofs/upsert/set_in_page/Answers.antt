@@ -84,7 +84,10 @@ returns-clause-done g c =
     ∙ sym (put_at g.K.Ord.cmp c.args.key c.args.digest es (held_of c.args.high_page.now) i x at within other)
 
 pub search-spot-requires : goal.search-spot-requires
-search-spot-requires g c = record { ascending = subst (NodesAscend g.K.Ord.cmp) (sym c.deref.ensures.value) (row-ascends g.K.Ord.cmp c.args.nodes.now.items (held_of c.args.high_page.now) c.requires.ascending) }
+search-spot-requires g c = record {
+  ascending =
+      subst (NodesAscend g.K.Ord.cmp) (sym c.deref.ensures.value) (row-ascends g.K.Ord.cmp c.args.nodes.now.items (held_of c.args.high_page.now) c.requires.ascending);
+}
 
 pub split_off_lt-requires : goal.split_off_lt-requires
 split_off_lt-requires g c = record { ascending = high-map g.K.Ord.cmp c.args.nodes.now.items (held_of c.args.high_page.now) c.requires.ascending }
@@ -95,4 +98,7 @@ split_off_lt-requires-2 g c =
     let x = c.index_mut.result.now in
     let within = one_at c.search-spot.ensures.within c.deref.ensures.value c.if-at-len.false c.len.ensures c.args.nodes.now.ok.0 in
     let is = c.behind-nodes.view_is ∙ c.index_mut.ensures.value ∙ ap (λ ys. get_or ys i x) c.reserve-2.ensures.items in
-    record { ascending = subst (λ (e : Node g.row.K.Denot g.row.D.Denot). IsMap g.K.Ord.cmp (held_pairs e.lt)) (sym is) (gap-map g.K.Ord.cmp c.args.nodes.now.items (held_of c.args.high_page.now) i x c.requires.ascending within) }
+    record {
+      ascending = subst (λ (e : Node g.row.K.Denot g.row.D.Denot). IsMap g.K.Ord.cmp (held_pairs e.lt)) (sym is)
+          (gap-map g.K.Ord.cmp c.args.nodes.now.items (held_of c.args.high_page.now) i x c.requires.ascending within);
+    }

@@ -14,7 +14,8 @@ traverse_page-nodes-init g t c = λ all after v. v
 pub traverse_page-nodes-preserved : goal.traverse_page-nodes-preserved
 traverse_page-nodes-preserved g t c =
     λ all after v. c.nodes.invariant all after
-    (row-answered c.args.page.now c.deref-node-items.result.now (held_of c.page.inside.high_page) c.nodes.node-index c.node-item.result c.nodes-test.true c.node-item.is c.traverse_node.ensures c.if-not-traverse_node.false v)
+    (row-answered c.args.page.now c.deref-node-items.result.now
+    (held_of c.page.inside.high_page) c.nodes.node-index c.node-item.result c.nodes-test.true c.node-item.is c.traverse_node.ensures c.if-not-traverse_node.false v)
 
 pub traverse_page-returns-then-not-traverse_node : goal.traverse_page-returns-then-not-traverse_node
 traverse_page-returns-then-not-traverse_node g t c =
@@ -41,7 +42,8 @@ traverse_page-returns g t c =
     let h = held_of s.high_page in
     let e = ap (λ (ns : _). page s.level s.tree_hash (row ns h)) c.deref-node-items.ensures.value ∙ c.page.view_is in
     page-answered c.args.high_page c.args.page.now s.level s.tree_hash (row es h) e c.visit_page.new.self c.visit_page.ensures c.if-not-visit_page.false
-    (c.nodes.invariant _ _ (row-over c.args.page.now es h c.nodes.node-index c.nodes-test.false (answered c.post_visit_page.new.self c.post_visit_page.ensures c.if-not-post_visit_page.false c.traverse_below.ensures)))
+    (c.nodes.invariant _ _ (row-over c.args.page.now es h c.nodes.node-index c.nodes-test.false
+    (answered c.post_visit_page.new.self c.post_visit_page.ensures c.if-not-post_visit_page.false c.traverse_below.ensures)))
 
 pub traverse_node-returns-then-not-pre_visit_node : goal.traverse_node-returns-then-not-pre_visit_node
 traverse_node-returns-then-not-pre_visit_node g t c = refused c.pre_visit_node.ensures c.if-not-pre_visit_node.true

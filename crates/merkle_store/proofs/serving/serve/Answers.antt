@@ -8,9 +8,9 @@ use Rattle.merkle_replica.specs.Contents.{tree_map}
 use Rattle.merkle_tree_theory.specs.Canonical.{IsCanonicalRoot, IsTreeOf}
 use Rattle.merkle_tree_theory.specs.State.{SameSettings}
 use Rattle.store_table.specs.WireRegisters.{register_encoding}
-use Rattle.merkle_store.specs.Exchanges.{IsAnswered, IsToldReply}
+use Rattle.merkle_store.specs.Exchanges.{IsMessageAnswered, IsToldReply}
 use Rattle.merkle_store.specs.Framing.{HasCome, frame_of}
-use Rattle.merkle_store.specs.Sessions.{entry_laws, key_encoding}
+use Rattle.merkle_store.specs.Sessions.{entry_laws, text_key_encoding}
 use Rattle.merkle_store.proofs.Exchanged.{has_served_more}
 use Rattle.merkle_store.proofs.serving.serve.Goals as goal
 
@@ -26,13 +26,13 @@ messages-preserved g c =
     let rows : after.rows ≡ replica.rows = new.rows ∙ inv.rows in
     let settings : SameSettings replica.tree after.tree = (new.settings.0 ∙ inv.settings.0, new.settings.1 ∙ inv.settings.1, new.settings.2 ∙ inv.settings.2) in
     let canonical = subst (λ t. IsCanonicalRoot (λ k. level_of (text_digest t.hasher k) t.base) t.root) c.tree.ensures.tree c.every_tree_is_sound.ensures.sound.canonical in
-    let replies : IsToldReply entry_laws 16 key_encoding register_encoding replica message reply = record {
+    let replies : IsToldReply entry_laws 16 text_key_encoding register_encoding replica message reply = record {
       before = before;
       after = after;
       rows = (inv.rows, rows);
       settings = (inv.settings, settings);
       of_rows = subst (λ s. IsTreeOf text_order (text_digest s.hasher) s.base after.tree.root (tree_map entry_laws s)) (same_side replica after rows settings) (canonical, c.tree.ensures.digests);
-      answer = subst (λ m. IsAnswered entry_laws 16 key_encoding register_encoding before after m reply) c.deref.ensures.value c.in-Ok.ensures.answered;
+      answer = subst (λ m. IsMessageAnswered entry_laws 16 text_key_encoding register_encoding before after m reply) c.deref.ensures.value c.in-Ok.ensures.answered;
     } in
     record {
       served = has_served_more replica c.args.most (g.W.Write.contents c.args.to.now, g.R.Read.remaining c.args.from.now) (g.W.Write.contents c.messages.to, g.R.Read.remaining c.messages.from)

@@ -32,11 +32,15 @@ returns-clause-pages g c hasher base a b t u h f e =
 
 pub returns-clause-digests : goal.returns-clause-digests
 returns-clause-digests g c hasher base format a b t u h f e =
-    same_digest g.K.Ord.cmp format g.K.KeyBytes.bytes_of (same_bytes g.K.Ord.cmp g.K.PartialEq.eq g.met.K.Ord.matches_eq g.K.KeyBytes.bytes_of g.met.K.KeyBytes.bytes_respect_eq) t u (returns-clause-pages g c hasher base a b t u h f e)
+    same_digest g.K.Ord.cmp format g.K.KeyBytes.bytes_of
+    (same_bytes g.K.Ord.cmp g.K.PartialEq.eq g.met.K.Ord.matches_eq g.K.KeyBytes.bytes_of g.met.K.KeyBytes.bytes_respect_eq) t u
+    (returns-clause-pages g c hasher base a b t u h f e)
 
 pub returns-clause-ranges : goal.returns-clause-ranges
 returns-clause-ranges g c hasher base format a b t u h f e =
-    same_ranges g.K.Ord.cmp format g.K.KeyBytes.bytes_of (same_bytes g.K.Ord.cmp g.K.PartialEq.eq g.met.K.Ord.matches_eq g.K.KeyBytes.bytes_of g.met.K.KeyBytes.bytes_respect_eq) t u (returns-clause-pages g c hasher base a b t u h f e)
+    same_ranges g.K.Ord.cmp format g.K.KeyBytes.bytes_of
+    (same_bytes g.K.Ord.cmp g.K.PartialEq.eq g.met.K.Ord.matches_eq g.K.KeyBytes.bytes_of g.met.K.KeyBytes.bytes_respect_eq) t u
+    (returns-clause-pages g c hasher base a b t u h f e)
 
 pub returns-clause-by_level : goal.returns-clause-by_level
 returns-clause-by_level g c hasher base m t f = root_depth (λ k. level_of (g.H.Hasher.digest_of hasher k) base) t f.0

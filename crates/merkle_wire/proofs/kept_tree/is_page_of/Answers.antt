@@ -3,7 +3,7 @@ use Rattle.std.specs.Prelude.{IsSome}
 use Rattle.key_order.proofs.SameMaps.{same_map-own}
 use Rattle.merkle_replica.specs.Contents.{tree_map}
 use Rattle.merkle_replica.proofs.SideLaws.{laws_of}
-use Rattle.merkle_search_tree.specs.Items.{gap_of}
+use Rattle.merkle_search_tree.specs.Items.{lent_gap}
 use Rattle.merkle_wire.specs.ItsRows.{side_with}
 use Rattle.merkle_wire.proofs.PagesAt.{page_in_each}
 use Rattle.merkle_wire.proofs.kept_tree.is_page_of.Goals as goal
@@ -26,7 +26,7 @@ returns-clause-lacked g c = rw g.met.H.RowHasher.laws_are (λ no rows kept has.
     let sound = c.every_tree_is_sound.ensures.sound in
     let (found, fills, is) = page_in_each laws g.met.K.Ord.total own
     (λ t u f h. c.a_map_has_one_tree.ensures.pages own.hasher own.base (tree_map laws own) (tree_map laws own) t u (same_map-own g.K.Ord.cmp g.met.K.Ord.total (tree_map laws own)) f h)
-    (c.equal_pages_have_equal_maps.ensures.digests own.format) (gap_of c.args.gap.now) c.args.digest.now has c.args.tree.now.root sound.ascending (sound.canonical, kept) in
+    (c.equal_pages_have_equal_maps.ensures.digests own.format) (lent_gap c.args.gap.now) c.args.digest.now has c.args.tree.now.root sound.ascending (sound.canonical, kept) in
     let yes : c.has_page.result ≡ true = c.has_page.ensures.all (is_there c.args.tree.now.root_hash c.requires) found fills is in
     let never : true ≡ false = sym yes ∙ no in
     cc)

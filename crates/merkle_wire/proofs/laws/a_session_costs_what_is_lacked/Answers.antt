@@ -1,7 +1,8 @@
 use Rattle.key_order.proofs.SameMaps.{same_map-own}
 use Rattle.merkle_replica.specs.Contents.{tree_map}
 use Rattle.merkle_replica.proofs.SideLaws.{laws_of}
-use Rattle.merkle_wire.specs.Cost.{has_page_at, own_tree}
+use Rattle.merkle_replica.specs.Missing.{own_tree}
+use Rattle.merkle_wire.specs.Cost.{has_page_at}
 use Rattle.merkle_wire.proofs.Exchanges.{tells}
 use Rattle.merkle_wire.proofs.OwnPages.{own_pages, pages_known}
 use Rattle.merkle_wire.proofs.SteadySessions.{session_pays, session_pays_for_keys}

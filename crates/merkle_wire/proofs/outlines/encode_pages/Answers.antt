@@ -3,7 +3,7 @@ use Rattle.std.proofs.lemmas.List.{take_all}
 use Rattle.std.specs.Option.{option_map}
 use Rattle.std.proofs.lemmas.Grind.{flat_map-append}
 use Rattle.merkle_bytes.specs.Options.{option_bytes}
-use Rattle.merkle_search_tree.specs.Items.{gap_of, item, items}
+use Rattle.merkle_search_tree.specs.Items.{lent_gap, item, items}
 use Rattle.merkle_wire.specs.Outlines.{pages_bytes}
 use Rattle.merkle_wire.proofs.ItemsMore.{map_more, pages_before, page_behind, pages_are, node_more, page_more}
 use Rattle.merkle_wire.proofs.outlines.encode_pages.Goals as goal
@@ -17,7 +17,7 @@ items-preserved g c =
     let more = map_more item c.args.list.now c.items.item-index x c.items-test.true c.item-item.is in
     elim c.match-item.branch [
       | in-Page w ↦ (let here = more ∙ ap (λ y. first ++ item y ∷ []) w.in-Page.is in
-          let p = page_more None first (gap_of w.in-Page.field-0) w.in-Page.digest.now in (
+          let p = page_more None first (lent_gap w.in-Page.field-0) w.in-Page.digest.now in (
             ap (λ v. v.items) w.bytes-is ∙ c.items.invariant.0 ∙ ap (λ t. old ++ pages_bytes t) (sym p.0 ∙ ap (pages_before None) (sym here)),
             ap (option_map (λ d. d.now)) w.page-is ∙ sym p.1 ∙ ap (page_behind None) (sym here),
           ))

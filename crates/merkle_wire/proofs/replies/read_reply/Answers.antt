@@ -1,7 +1,7 @@
 use Rattle.std.proofs.Common.{Some, None, refl, sym, subst, ◌∙◌}
 use Rattle.std.proofs.lemmas.Result.{err_from_is_err_and}
 use Rattle.merkle_wire.specs.Fit.{IsFit}
-use Rattle.merkle_wire.specs.Reads.{IsRead}
+use Rattle.merkle_wire.specs.Reads.{IsReplyRead}
 use Rattle.merkle_wire.specs.declared.question.Question.TheVariants.{Outlines, Nodes, RowsAt, RowsIn}
 use Rattle.merkle_wire.specs.declared.replies.Reply.TheVariants as came
 use Rattle.merkle_wire.proofs.Fronts.{refused_for}
@@ -11,51 +11,51 @@ use Rattle.merkle_wire.proofs.replies.read_reply.Goals as goal
 pub returns-then-is_empty-clause-read : goal.returns-then-is_empty-clause-read
 returns-then-is_empty-clause-read g c =
     let read = c.in_ok-told-in-Outlines in
-    subst (λ q. IsRead g.K.Ord.cmp g.K.Encode.encoding g.V.Encode.encoding c.args.digest_bytes q c.args.reply.now (came.Outlines read.told) None) (sym c.in-Outlines.is)
+    subst (λ q. IsReplyRead g.K.Ord.cmp g.K.Encode.encoding g.V.Encode.encoding c.args.digest_bytes q c.args.reply.now (came.Outlines read.told) None) (sym c.in-Outlines.is)
     (read.told, read.left.items, refl, read.ensures.read, asks_none (Outlines c.in-Outlines.most) read.left (sym c.is_empty.ensures ∙ c.if-is_empty.true))
 
 pub returns-in-Outlines-clause-read : goal.returns-in-Outlines-clause-read
 returns-in-Outlines-clause-read g c =
     let read = c.in_ok-told-in-Outlines in
-    subst (λ q. IsRead g.K.Ord.cmp g.K.Encode.encoding g.V.Encode.encoding c.args.digest_bytes q c.args.reply.now (came.Outlines read.told)
+    subst (λ q. IsReplyRead g.K.Ord.cmp g.K.Encode.encoding g.V.Encode.encoding c.args.digest_bytes q c.args.reply.now (came.Outlines read.told)
     (Some (Outlines c.in-Outlines.most read.left))) (sym c.in-Outlines.is)
     (read.told, read.left.items, refl, read.ensures.read, asks_some (Outlines c.in-Outlines.most) read.left (sym c.is_empty.ensures ∙ c.if-is_empty.false))
 
 pub returns-then-is_empty-2-clause-read : goal.returns-then-is_empty-2-clause-read
 returns-then-is_empty-2-clause-read g c =
     let read = c.in_ok-told-in-Nodes in
-    subst (λ q. IsRead g.K.Ord.cmp g.K.Encode.encoding g.V.Encode.encoding c.args.digest_bytes q c.args.reply.now (came.Outlines read.told) None) (sym c.in-Nodes.is)
+    subst (λ q. IsReplyRead g.K.Ord.cmp g.K.Encode.encoding g.V.Encode.encoding c.args.digest_bytes q c.args.reply.now (came.Outlines read.told) None) (sym c.in-Nodes.is)
     (read.told, read.left.items, refl, read.ensures.read, asks_none (Nodes c.in-Nodes.most) read.left (sym c.is_empty-in-Nodes.ensures ∙ c.if-is_empty-2.true))
 
 pub returns-in-Nodes-clause-read : goal.returns-in-Nodes-clause-read
 returns-in-Nodes-clause-read g c =
     let read = c.in_ok-told-in-Nodes in
-    subst (λ q. IsRead g.K.Ord.cmp g.K.Encode.encoding g.V.Encode.encoding c.args.digest_bytes q c.args.reply.now (came.Outlines read.told)
+    subst (λ q. IsReplyRead g.K.Ord.cmp g.K.Encode.encoding g.V.Encode.encoding c.args.digest_bytes q c.args.reply.now (came.Outlines read.told)
     (Some (Nodes c.in-Nodes.most read.left))) (sym c.in-Nodes.is)
     (read.told, read.left.items, refl, read.ensures.read, asks_some (Nodes c.in-Nodes.most) read.left (sym c.is_empty-in-Nodes.ensures ∙ c.if-is_empty-2.false))
 
 pub returns-then-is_empty-3-clause-read : goal.returns-then-is_empty-3-clause-read
 returns-then-is_empty-3-clause-read g c =
     let read = c.in_ok-rows-in-RowsAt in
-    subst (λ q. IsRead g.K.Ord.cmp g.K.Encode.encoding g.V.Encode.encoding c.args.digest_bytes q c.args.reply.now (came.Rows read.rows) None) (sym c.in-RowsAt.is)
+    subst (λ q. IsReplyRead g.K.Ord.cmp g.K.Encode.encoding g.V.Encode.encoding c.args.digest_bytes q c.args.reply.now (came.Rows read.rows) None) (sym c.in-RowsAt.is)
     (read.rows, read.left.items, refl, read.ensures.read, asks_none RowsAt read.left (sym c.is_empty-in-RowsAt.ensures ∙ c.if-is_empty-3.true))
 
 pub returns-in-RowsAt-clause-read : goal.returns-in-RowsAt-clause-read
 returns-in-RowsAt-clause-read g c =
     let read = c.in_ok-rows-in-RowsAt in
-    subst (λ q. IsRead g.K.Ord.cmp g.K.Encode.encoding g.V.Encode.encoding c.args.digest_bytes q c.args.reply.now (came.Rows read.rows) (Some (RowsAt read.left))) (sym c.in-RowsAt.is)
+    subst (λ q. IsReplyRead g.K.Ord.cmp g.K.Encode.encoding g.V.Encode.encoding c.args.digest_bytes q c.args.reply.now (came.Rows read.rows) (Some (RowsAt read.left))) (sym c.in-RowsAt.is)
     (read.rows, read.left.items, refl, read.ensures.read, asks_some RowsAt read.left (sym c.is_empty-in-RowsAt.ensures ∙ c.if-is_empty-3.false))
 
 pub returns-then-is_empty-4-clause-read : goal.returns-then-is_empty-4-clause-read
 returns-then-is_empty-4-clause-read g c =
     let read = c.in_ok-rows-in-RowsIn in
-    subst (λ q. IsRead g.K.Ord.cmp g.K.Encode.encoding g.V.Encode.encoding c.args.digest_bytes q c.args.reply.now (came.Rows read.rows) None) (sym c.in-RowsIn.is)
+    subst (λ q. IsReplyRead g.K.Ord.cmp g.K.Encode.encoding g.V.Encode.encoding c.args.digest_bytes q c.args.reply.now (came.Rows read.rows) None) (sym c.in-RowsIn.is)
     (read.rows, read.left.items, refl, read.ensures.read, asks_none RowsIn read.left (sym c.is_empty-in-RowsIn.ensures ∙ c.if-is_empty-4.true))
 
 pub returns-clause-read : goal.returns-clause-read
 returns-clause-read g c =
     let read = c.in_ok-rows-in-RowsIn in
-    subst (λ q. IsRead g.K.Ord.cmp g.K.Encode.encoding g.V.Encode.encoding c.args.digest_bytes q c.args.reply.now (came.Rows read.rows) (Some (RowsIn read.left))) (sym c.in-RowsIn.is)
+    subst (λ q. IsReplyRead g.K.Ord.cmp g.K.Encode.encoding g.V.Encode.encoding c.args.digest_bytes q c.args.reply.now (came.Rows read.rows) (Some (RowsIn read.left))) (sym c.in-RowsIn.is)
     (read.rows, read.left.items, refl, read.ensures.read, asks_some RowsIn read.left (sym c.is_empty-in-RowsIn.ensures ∙ c.if-is_empty-4.false))
 
 pub returns-in_err-told-in-Outlines-clause-refused : goal.returns-in_err-told-in-Outlines-clause-refused

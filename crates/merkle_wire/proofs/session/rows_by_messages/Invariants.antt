@@ -5,7 +5,7 @@ use Rattle.merkle_tree_theory.specs.State.{SameSettings}
 use Rattle.merkle_wire.specs.Limits.{no_limits}
 use Rattle.merkle_wire.specs.Questions.{question_bytes}
 use Rattle.merkle_wire.specs.Sessions.{Covers, TellsOwn}
-use Rattle.merkle_wire.specs.Steady.{HasKeysOfSides, IsSteady, left_for}
+use Rattle.merkle_wire.specs.Steady.{HasKeysOfSides, IsSteadyCatchUp, left_for}
 use Rattle.merkle_wire.proofs.session.rows_by_messages.Given as goal
 
 -- the message asks what the catch-up asks, by own settings and at keys of the two sides, which covers what is missing and is steady, by the tree that
@@ -15,7 +15,7 @@ invariant-exchanges g l = record {
   asks : l.message.items ≡ question_bytes g.K.Encode.encoding l.session.asked;
   covers : Covers (laws_of g.K.Ord.cmp g.K.KeyBytes.bytes_of g.H.Hasher-1.digest_of g.V.PartialEq.eq g.V.Join.join_of g.H.Hasher-2.digest_of) (side l.fn.replica)
       (side l.fn.peer) l.fn.peer.tree.root l.session;
-  steady : IsSteady (laws_of g.K.Ord.cmp g.K.KeyBytes.bytes_of g.H.Hasher-1.digest_of g.V.PartialEq.eq g.V.Join.join_of g.H.Hasher-2.digest_of) (side l.fn.peer) l.fn.peer.tree.root l.session;
+  steady : IsSteadyCatchUp (laws_of g.K.Ord.cmp g.K.KeyBytes.bytes_of g.H.Hasher-1.digest_of g.V.PartialEq.eq g.V.Join.join_of g.H.Hasher-2.digest_of) (side l.fn.peer) l.fn.peer.tree.root l.session;
   keys : HasKeysOfSides (laws_of g.K.Ord.cmp g.K.KeyBytes.bytes_of g.H.Hasher-1.digest_of g.V.PartialEq.eq g.V.Join.join_of g.H.Hasher-2.digest_of) (side l.fn.replica) (side l.fn.peer) l.session;
   own : TellsOwn (laws_of g.K.Ord.cmp g.K.KeyBytes.bytes_of g.H.Hasher-1.digest_of g.V.PartialEq.eq g.V.Join.join_of g.H.Hasher-2.digest_of) g.row.N (side l.replica) l.session.asked;
   limits : l.session.left ≡ no_limits;

@@ -6,7 +6,7 @@ use Rattle.merkle_wire.specs.Gaps.{owned_gap}
 use Rattle.merkle_wire.specs.ItsRows.{ForRowsOf, side_of}
 use Rattle.merkle_wire.specs.Outlines.{Outline}
 use Rattle.merkle_wire.specs.Reads.{outline_read, outlines_read}
-use Rattle.merkle_wire.specs.Taking.{AreTaken, IsTaken}
+use Rattle.merkle_wire.specs.Taking.{AreTaken, IsPageTaken}
 use Rattle.merkle_wire.specs.declared.gaps.OwnedGap.{OwnedGap}
 use Rattle.merkle_wire.proofs.TakenMore.{taken-more}
 use Rattle.merkle_wire.proofs.taking.take_outlines.Goals as goal
@@ -22,7 +22,7 @@ told-preserved g c =
     let kept = c.told.invariant in
     let own = (g.T.KeptTree.kept c.args.tree.now).digests in
     let given = one_yielded c.told.outline-iterator c.next.new.self c.told.yielded c.args.told.items read c.in-Some.ensures.steps kept.left kept.count in
-    let taken = subst (λ t. ForRowsOf laws t.digests (λ local. IsTaken laws local (owned_gap one.0) one.1 c.told.work c.take_outline.new.work)) kept.kept c.in_ok-take_outline.ensures.taken in
+    let taken = subst (λ t. ForRowsOf laws t.digests (λ local. IsPageTaken laws local (owned_gap one.0) one.1 c.told.work c.take_outline.new.work)) kept.kept c.in_ok-take_outline.ensures.taken in
     record {
       left = given.0;
       count = given.1;
@@ -39,7 +39,7 @@ told-preserved-in_ok-take_outline g c =
     let kept = c.told.invariant in
     let own = (g.T.KeptTree.kept c.args.tree.now).digests in
     let given = one_yielded c.told.outline-iterator c.next.new.self c.told.yielded c.args.told.items read c.in-Some.ensures.steps kept.left kept.count in
-    let taken = subst (λ t. ForRowsOf laws t.digests (λ local. IsTaken laws local (owned_gap one.0) one.1 c.told.work c.take_outline.new.work)) kept.kept c.in_ok-take_outline.ensures.taken in
+    let taken = subst (λ t. ForRowsOf laws t.digests (λ local. IsPageTaken laws local (owned_gap one.0) one.1 c.told.work c.take_outline.new.work)) kept.kept c.in_ok-take_outline.ensures.taken in
     record {
       left = given.0;
       count = given.1;

@@ -4,7 +4,7 @@ use Rattle.merkle_wire.specs.Found.{Found}
 use Rattle.merkle_wire.specs.Gaps.{owned_gap}
 use Rattle.merkle_wire.specs.ItsRows.{ForRowsOf}
 use Rattle.merkle_wire.specs.Reads.{page_keys, page_read}
-use Rattle.merkle_wire.specs.Taking.{AreNewNodes, HasNodes, IsTaken}
+use Rattle.merkle_wire.specs.Taking.{AreNewNodes, HasNodes, IsPageTaken}
 use Rattle.merkle_wire.proofs.TakenMore.{page_taken}
 use Rattle.merkle_wire.proofs.taking.take_page.Given.{Over}
 use Rattle.merkle_wire.proofs.taking.take_page.Goals as goal
@@ -15,7 +15,8 @@ taken : (g : Over) (c : In_ok-take_pages g) (nodes : List (Gap g.row.K.Denot)) (
     → ForRowsOf g.H.RowHasher.laws (g.T.KeptTree.kept c.args.tree.now).digests
     (λ local. AreNewNodes g.H.RowHasher.laws local (owned_gap c.args.gap.now) (page_keys c.args.page.now) c.args.page.now.digest nodes)
     → after ≡ record c.take_pages.new.work { nodes = c.take_pages.new.work.nodes ++ nodes }
-    → ForRowsOf g.H.RowHasher.laws (g.T.KeptTree.kept c.args.tree.now).digests (λ local. IsTaken g.H.RowHasher.laws local (owned_gap c.args.gap.now) (page_read c.args.page.now) c.args.work.now after)
+    → ForRowsOf g.H.RowHasher.laws (g.T.KeptTree.kept c.args.tree.now).digests
+    (λ local. IsPageTaken g.H.RowHasher.laws local (owned_gap c.args.gap.now) (page_read c.args.page.now) c.args.work.now after)
 taken g c nodes after own adds = λ rows of.
     let added = (rw c.deref.ensures.value at c.in_ok-take_pages.ensures.added) rows of in
     (added.0, nodes, added.1, own rows of, page_taken c.args.work.now c.take_pages.new.work after added.0 nodes added.2 adds)

@@ -1,7 +1,7 @@
 use Rattle.std.proofs.Common.{rules, arith, ◌≡◌, ℕ, ◌+◌, ◌-◌, ◌<◌, ◌^◌, true, not, ◌&&◌, List, ◌++◌, length, drop, nat_eq, sym, ap, subst, ◌∙◌}
 use Rattle.std.specs.Bool.{if◌then◌else◌}
 use Rattle.std.proofs.lemmas.List.{drop_at, length-append, take-append-drop}
-use Rattle.mst_c.specs.Spots.{EntryParts, IsParts, parts_bytes}
+use Rattle.mst_c.specs.Spots.{EntryParts, IsParts, two_part_entry}
 use Rattle.mst_c.proofs.Spots.{body_at, body_behind, first_parts, one_front, one_kind, parts_flat, two_length}
 use Rattle.mst_c.proofs.entries.next.Goals.{else-at-eq0-via-then-at-eq0+else-not-is_list, else-at-eq0-via-else-at-eq0}
 use Rattle.mst_c.proofs.entries.next.Goals as goal
@@ -39,9 +39,10 @@ returns-in_default-entry_of-clause-no_entry c done found =
     let kind = one_kind rows list c.in-Some.digests c.in-Some.count c.in-Some.body.now front e.digests e.count e.body e.marked in
     let size = body_at rows list c.in-Some.digests c.in-Some.count c.in-Some.body.now front in
     let start : c.start_of-start.result ≡ length e.before = c.start_of-start.ensures ∙ ap (λ n. if nat_eq c.args.at.now 0 then n else c.args.at.now) size ∙ sym e.starts in
-    let rest = c.in-Some-split_at_checked.ensures.cases.2 ∙ ap (drop c.start_of-start.result) e.parts ∙ drop_at e.before (parts_bytes (rows && e.digests) e.entry ++ e.behind) c.start_of-start.result (sym start) in
+    let rest = c.in-Some-split_at_checked.ensures.cases.2 ∙ ap (drop c.start_of-start.result) e.parts
+    ∙ drop_at e.before (two_part_entry (rows && e.digests) e.entry ++ e.behind) c.start_of-start.result (sym start) in
     c.entry_of.ensures.none c.in_default-entry_of.is e.entry e.behind (subst (λ d. IsParts (rows && d) (not rows && d) e.entry) (sym kind) e.sized)
-    (rest ∙ ap (λ d. parts_bytes (rows && d) e.entry ++ e.behind) (sym kind))
+    (rest ∙ ap (λ d. two_part_entry (rows && d) e.entry ++ e.behind) (sym kind))
 
 pub spot_of-requires : goal.spot_of-requires
 spot_of-requires c =

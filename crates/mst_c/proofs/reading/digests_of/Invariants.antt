@@ -1,14 +1,14 @@
 use Rattle.std.proofs.Common.{◌≡◌, ◌++◌, length, map}
 use Rattle.std.specs.List.{AllByRecursion, flat_map}
 use Rattle.mst_c.specs.Lists.{HasDigest}
-use Rattle.mst_c.specs.Trees.{by_bytes}
+use Rattle.c_values.specs.Keys.{by_key}
 use Rattle.mst_c.specs.Wire.{digest_bytes}
 use Rattle.mst_c.proofs.reading.digests_of.Given as goal
 
 -- the keys so far were read, and the rest is still to be
 abbrev pub invariant-entries : goal.invariant-entries
 invariant-entries l = record {
-  read : l.body ≡ flat_map digest_bytes (map by_bytes l.rows.items) ++ l.rest;
-  each : AllByRecursion HasDigest (map by_bytes l.rows.items);
-  counted : length (map by_bytes l.rows.items) ≡ l._done;
+  read : l.body ≡ flat_map digest_bytes (map by_key l.rows.items) ++ l.rest;
+  each : AllByRecursion HasDigest (map by_key l.rows.items);
+  counted : length (map by_key l.rows.items) ≡ l._done;
 }

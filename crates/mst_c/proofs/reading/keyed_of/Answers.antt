@@ -1,6 +1,6 @@
 use Rattle.std.proofs.Common.{rules, arith, ◌<◌, ◌^◌, ◌++◌, length, sym, ap, ◌∙◌}
 use Rattle.std.proofs.lemmas.List.{length-append, length-take-le, take-append-drop}
-use Rattle.mst_c.specs.Wire.{text_bytes}
+use Rattle.c_values.specs.Lists.{sized_bytes}
 use Rattle.mst_c.proofs.Ranges.{as_text}
 use Rattle.mst_c.proofs.Strings.{one_text}
 use Rattle.mst_c.proofs.reading.keyed_of.Goals as goal
@@ -8,7 +8,7 @@ use Rattle.mst_c.proofs.reading.keyed_of.Goals as goal
 pub returns-clause-keyed : goal.returns-clause-keyed
 returns-clause-keyed c =
     let key = c.in_ok-key.key.now in let chunk = c.in_ok-digest.ensures.cases in
-    c.in_ok-key.ensures.text ∙ ap (λ t. text_bytes key ++ t) (sym (take-append-drop 16 c.in_ok-key.rest.now) ∙ (λ i. sym chunk.0 i ++ sym chunk.1 i))
+    c.in_ok-key.ensures.text ∙ ap (λ t. sized_bytes key ++ t) (sym (take-append-drop 16 c.in_ok-key.rest.now) ∙ (λ i. sym chunk.0 i ++ sym chunk.1 i))
     ∙ sym (as_text (key, c.in_ok-digest.digest.now) c.in_ok-digest.rest.now)
 
 pub returns-clause-sized : goal.returns-clause-sized

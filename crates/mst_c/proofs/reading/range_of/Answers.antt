@@ -3,8 +3,9 @@ use Rattle.std.proofs.lemmas.List.{length-append, take-append-drop}
 use Rattle.merkle_diff.specs.Entry.{Entry}
 use Rattle.key_order.specs.Order.{Upto}
 use Rattle.mst_c.specs.Lists.{IsPageRange}
-use Rattle.mst_c.specs.Trees.{bytes_cmp}
-use Rattle.mst_c.specs.Wire.{entry_bytes, row_bytes}
+use Rattle.c_values.specs.Keys.{bytes_cmp}
+use Rattle.mst_c.specs.Wire.{range_entry}
+use Rattle.c_values.specs.Lists.{sized_row}
 use Rattle.mst_c.proofs.Ranges.{as_row}
 use Rattle.mst_c.proofs.Strings.{one_row}
 use Rattle.mst_c.proofs.reading.range_of.Goals as goal
@@ -38,7 +39,7 @@ returns-clause-range c =
     let rest = c.in_ok-digest.rest.now in
     let e : Entry (List ℕ) (List ℕ) = record { first = c.new.result; last = c.new-2.result; digest = c.new-3.result } in
     let parts : c.in_ok-first.rest.now ≡ c.new-3.result ++ rest = sym (take-append-drop 16 c.in_ok-first.rest.now) ∙ (λ i. (sym chunk.0 ∙ sym c.new-3.ensures) i ++ sym chunk.1 i) in
-    let spelled : c.args.bytes.now ≡ entry_bytes e ++ rest =
-    c.in_ok-first.ensures.pair ∙ (λ i. row_bytes (sym c.new.ensures i, sym c.new-2.ensures i) ++ parts i) ∙ sym (as_row e rest) in
+    let spelled : c.args.bytes.now ≡ range_entry e ++ rest =
+    c.in_ok-first.ensures.pair ∙ (λ i. sized_row (sym c.new.ensures i, sym c.new-2.ensures i) ++ parts i) ∙ sym (as_row e rest) in
     let long : length c.new-3.result ≡ 16 = search rules in
-    subst (λ x. (c.args.bytes.now ≡ entry_bytes x ++ rest) × IsPageRange x) (sym c.in_ok-range.ensures.range) (spelled, (long, c.in_ok-range.ensures.in_order.0 refl))
+    subst (λ x. (c.args.bytes.now ≡ range_entry x ++ rest) × IsPageRange x) (sym c.in_ok-range.ensures.range) (spelled, (long, c.in_ok-range.ensures.in_order.0 refl))

@@ -1,6 +1,6 @@
 use Rattle.std.proofs.Common.{rules, arith, ◌<◌, ◌^◌, length, sym, ap, ◌∙◌}
 use Rattle.mst_c.specs.Lists.{IsPageRange}
-use Rattle.mst_c.specs.Wire.{entry_bytes}
+use Rattle.mst_c.specs.Wire.{range_entry}
 use Rattle.mst_c.proofs.Lists.{one_left, none_left}
 use Rattle.mst_c.proofs.Ranges.{entry_ends}
 use Rattle.mst_c.proofs.reading.ranges_of.Goals as goal
@@ -9,11 +9,13 @@ pub returns-in_default-clause-malformed : goal.returns-in_default-clause-malform
 returns-in_default-clause-malformed c is es each count e =
     let kept = c.entries.invariant in let done = c.entries.ranges.items in
     let short : length c.args.body.now < 2 ^ 64 = search rules in
-    let next = one_left IsPageRange entry_bytes entry_ends es done c.entries.rest.now each kept.each (omega (arith, kept.counted, count)) (omega (arith, ap length e)) (sym e ∙ kept.read) in
+    let next = one_left IsPageRange range_entry entry_ends es done c.entries.rest.now each kept.each (omega (arith, kept.counted, count)) (omega (arith, ap length e)) (sym e ∙ kept.read) in
     c.range_of.ensures.none c.in_default.is next.0 next.1 next.2 next.3
 
 pub returns-clause-malformed : goal.returns-clause-malformed
 returns-clause-malformed c is es each count e =
     let kept = c.entries.invariant in let done = c.entries.ranges.items in
     let short : length c.args.body.now < 2 ^ 64 = search rules in
-    c.all_read.ensures.malformed is (none_left IsPageRange entry_bytes entry_ends es done c.entries.rest.now each kept.each (omega (arith, kept.counted, count)) (omega (arith, ap length e)) (sym e ∙ kept.read))
+    c.all_read.ensures.malformed is
+    (none_left IsPageRange range_entry entry_ends es done c.entries.rest.now each kept.each (omega (arith, kept.counted, count))
+    (omega (arith, ap length e)) (sym e ∙ kept.read))

@@ -1,13 +1,13 @@
 use Rattle.std.proofs.Common.{◌≡◌, ◌++◌, length}
 use Rattle.std.specs.List.{AllByRecursion, flat_map}
 use Rattle.mst_c.specs.Lists.{IsPageRange}
-use Rattle.mst_c.specs.Wire.{entry_bytes}
+use Rattle.mst_c.specs.Wire.{range_entry}
 use Rattle.mst_c.proofs.reading.ranges_of.Given as goal
 
 -- the ranges so far were read, and the rest is still to be
 abbrev pub invariant-entries : goal.invariant-entries
 invariant-entries l = record {
-  read : l.body ≡ flat_map entry_bytes l.ranges.items ++ l.rest;
+  read : l.body ≡ flat_map range_entry l.ranges.items ++ l.rest;
   each : AllByRecursion IsPageRange l.ranges.items;
   counted : length l.ranges.items ≡ l._done;
 }

@@ -4,7 +4,8 @@ use Rattle.std.proofs.lemmas.List.{map-append, take_more}
 use Rattle.std.proofs.lemmas.List.Folds.{flat_map-map}
 use Rattle.merkle_diff.specs.PageRange.{entry, entries}
 use Rattle.mst_c.specs.Lists.{IsPageRange, entry_by_bytes}
-use Rattle.mst_c.specs.Wire.{number_bytes, entry_bytes, page_mark}
+use Rattle.mst_c.specs.Wire.{range_entry, page_mark}
+use Rattle.c_values.specs.Lists.{number_bytes}
 use Rattle.c_values.proofs.Lists.{one_more}
 use Rattle.mst_c.proofs.Lists.{all_more}
 use Rattle.mst_c.proofs.wire.encode.Goals as goal
@@ -17,9 +18,9 @@ entries-preserved c =
     let done = ap (λ x. map entry_by_bytes (entries x)) more ∙ ap (map entry_by_bytes) (map-append (λ r. entry r) (take i ranges) (r ∷ []))
     ∙ map-append entry_by_bytes (entries (take i ranges)) (entry r ∷ []) in
     record {
-      written = one_more (λ r. entry r) (λ e. entry_bytes (entry_by_bytes e)) ranges i r front c.entries.out.items c.put_range.new.out.items c.entries-test.true c.range-item.is
-          (c.entries.invariant.written ∙ ap (λ t. front ++ t) (flat_map-map entry_bytes entry_by_bytes (entries (take i ranges)))) c.in_ok-put_range.ensures.written
-          ∙ ap (λ t. front ++ t) (sym (flat_map-map entry_bytes entry_by_bytes (entries (take (i + 1) ranges))));
+      written = one_more (λ r. entry r) (λ e. range_entry (entry_by_bytes e)) ranges i r front c.entries.out.items c.put_range.new.out.items c.entries-test.true c.range-item.is
+          (c.entries.invariant.written ∙ ap (λ t. front ++ t) (flat_map-map range_entry entry_by_bytes (entries (take i ranges)))) c.in_ok-put_range.ensures.written
+          ∙ ap (λ t. front ++ t) (sym (flat_map-map range_entry entry_by_bytes (entries (take (i + 1) ranges))));
       each = subst (AllByRecursion IsPageRange) (sym done)
           (all_more IsPageRange (map entry_by_bytes (entries (take i ranges))) (entry_by_bytes (entry r)) c.entries.invariant.each c.in_ok-put_range.ensures.range);
     }

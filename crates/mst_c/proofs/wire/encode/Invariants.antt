@@ -2,11 +2,12 @@ use Rattle.std.proofs.Common.{◌≡◌, ◌++◌, length, take, map}
 use Rattle.std.specs.List.{AllByRecursion, flat_map}
 use Rattle.merkle_diff.specs.PageRange.{entries}
 use Rattle.mst_c.specs.Lists.{IsPageRange, entry_by_bytes}
-use Rattle.mst_c.specs.Wire.{number_bytes, entry_bytes, page_mark}
+use Rattle.mst_c.specs.Wire.{range_entry, page_mark}
+use Rattle.c_values.specs.Lists.{number_bytes}
 use Rattle.mst_c.proofs.wire.encode.Given as goal
 
 abbrev pub invariant-entries : goal.invariant-entries
 invariant-entries l = record {
-  written : l.out.items ≡ (page_mark ++ number_bytes (length (map entry_by_bytes (entries l.ranges)))) ++ flat_map entry_bytes (map entry_by_bytes (entries (take l.range-index l.ranges)));
+  written : l.out.items ≡ (page_mark ++ number_bytes (length (map entry_by_bytes (entries l.ranges)))) ++ flat_map range_entry (map entry_by_bytes (entries (take l.range-index l.ranges)));
   each : AllByRecursion IsPageRange (map entry_by_bytes (entries (take l.range-index l.ranges)));
 }

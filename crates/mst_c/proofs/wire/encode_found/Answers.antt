@@ -1,6 +1,7 @@
 use Rattle.std.proofs.Common.{◌++◌, length}
 use Rattle.merkle_diff.specs.DiffRange.{span, spans}
-use Rattle.mst_c.specs.Wire.{number_bytes, span_bytes, key_mark}
+use Rattle.mst_c.specs.Wire.{span_bytes, key_mark}
+use Rattle.c_values.specs.Lists.{number_bytes}
 use Rattle.c_values.proofs.Lists.{one_more}
 use Rattle.mst_c.proofs.wire.encode_found.Goals as goal
 

@@ -12,7 +12,8 @@ pub characters-preserved : goal.characters-preserved
 characters-preserved c =
     let one = encode_utf8_all (json_char c.in-Some.character) in
     let before = encode_utf8_all (flat_map json_char c.characters.yielded) in
-    c.in_ok-push_json.ensures ∙ ap (λ (bs : List ℕ). bs ++ one) c.characters.invariant ∙ append_assoc (codes "\"") before one ∙ ap (λ (bs : List ℕ). codes "\"" ++ bs) (spelt_more json_char c.characters.yielded c.in-Some.character)
+    c.in_ok-push_json.ensures ∙ ap (λ (bs : List ℕ). bs ++ one) c.characters.invariant ∙ append_assoc (codes "\"") before one
+    ∙ ap (λ (bs : List ℕ). codes "\"" ++ bs) (spelt_more json_char c.characters.yielded c.in-Some.character)
 
 pub returns : goal.returns
 returns c =

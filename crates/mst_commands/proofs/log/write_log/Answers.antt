@@ -28,6 +28,8 @@ returns-clause-written g c =
     let fresh : IsBeforeRecord first = record { setup = c.from_writer-writer.ensures.cfg; fields = c.from_writer-writer.ensures.fields; wrote = c.from_writer-writer.ensures.wrote } in
     let all : take c.entries.entry-index c.args.entries.now ≡ c.args.entries.now = take_all c.entries.entry-index c.args.entries.now (omega arith) in
     let told = subst (λ (items : List (Key × Register)). WritesRecords contents c.write_five.new.writer c.entries.writer (flat_map entry_text items)) all c.entries.invariant in
-    let wrote = writes_then contents first c.write_five.new.writer c.entries.writer (row_text default_writer (header true)) (flat_map entry_text c.args.entries.now) (rw c.as_bytes.ensures.value at c.in_ok-write_five.ensures.written) told fresh in
-    if_ok c.finish.result _ _ (λ out kept. written_all contents c.args.out out first c.entries.writer (log_text c.args.entries.now) c.from_writer-writer.ensures.wtr c.from_writer-writer.ensures.empty wrote.1 kept)
+    let wrote = writes_then contents first c.write_five.new.writer c.entries.writer (row_text default_writer (header true))
+    (flat_map entry_text c.args.entries.now) (rw c.as_bytes.ensures.value at c.in_ok-write_five.ensures.written) told fresh in
+    if_ok c.finish.result _ _ (λ out kept. written_all contents c.args.out out first c.entries.writer
+    (log_text c.args.entries.now) c.from_writer-writer.ensures.wtr c.from_writer-writer.ensures.empty wrote.1 kept)
     c.finish.ensures.kept

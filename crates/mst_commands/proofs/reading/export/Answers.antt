@@ -18,5 +18,9 @@ pub rows-preserved : goal.rows-preserved
 rows-preserved g c =
     let (given, walked, wrote) = c.rows.invariant in
     let row = c.in-Some.row in
-    let on = subst (λ (o : Option (Key × Register)). WalksOn g.S.Store c.rows.log c.next_latest.new.log c.rows.walk c.next_latest.new.walk o) c.in-Some.is c.in_ok-row.ensures.walked in
-    (given ++ row ∷ [], on c.args.log.now given walked, written_more g.W.Write.contents c.args.out c.rows.writer c.write_row.new.writer (pairs_text given) (pair_text row) _ wrote c.in_ok-write_row.ensures.written (pairs_more given row))
+    let on = subst (λ (o : Option (Key × Register)). WalksOn g.S.Store c.rows.log c.next_latest.new.log c.rows.walk c.next_latest.new.walk o) c.in-Some.is c.in_ok-row.ensures.walked in (
+      given ++ row ∷ [],
+      on c.args.log.now given walked,
+      written_more g.W.Write.contents c.args.out c.rows.writer c.write_row.new.writer (pairs_text given)
+          (pair_text row) _ wrote c.in_ok-write_row.ensures.written (pairs_more given row),
+    )

@@ -4,7 +4,7 @@ use Rattle.std.specs.Io.KnownBytes.{Appends}
 use Rattle.key_order.specs.Text.{Text as Key}
 use Rattle.store_table.specs.Reading.{WalksOn}
 use Rattle.store_table.specs.declared.register.Register.{Register}
-use Rattle.mst_commands.specs.Lines.{lines_of, list_of}
+use Rattle.mst_commands.specs.Lines.{listed_lines, list_of}
 use Rattle.mst_commands.proofs.LineLemmas.{lines_more, left_more}
 use Rattle.mst_commands.proofs.reading.list.Goals as goal
 
@@ -23,6 +23,6 @@ rows-preserved g c =
       given ++ row ∷ [],
       on c.args.log.now given walked,
       subst (Appends (g.W.Write.contents c.args.out.now) (g.W.Write.contents c.write_next.new.out)) more
-          (Appends-trans _ _ _ (list_of listing given) (lines_of listing.bounds listing.json c.rows.left (row ∷ [])) app c.in_ok-left.ensures.bytes),
+          (Appends-trans _ _ _ (list_of listing given) (listed_lines listing.bounds listing.json c.rows.left (row ∷ [])) app c.in_ok-left.ensures.bytes),
       left_more listing.bounds listing.limit c.rows.left c.in_ok-left.left given row left c.in_ok-left.ensures.left,
     )

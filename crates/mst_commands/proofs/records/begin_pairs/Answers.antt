@@ -9,5 +9,6 @@ returns-clause-begun g c =
     let made = c.from_writer-writer.ensures in (
       c.from_writer-writer.result,
       record { before = record { setup = made.cfg; fields = made.fields; wrote = made.wrote }; under = made.wtr; empty = made.empty },
-      subst (WritesRecords g.W.Write.contents c.from_writer-writer.result c.write_pair.new.writer) (sym (append-nil (row_text default_writer (header false)))) (rw c.as_bytes.ensures.value at c.in_ok-write_pair.ensures.written),
+      subst (WritesRecords g.W.Write.contents c.from_writer-writer.result c.write_pair.new.writer) (sym (append-nil (row_text default_writer (header false))))
+          (rw c.as_bytes.ensures.value at c.in_ok-write_pair.ensures.written),
     )

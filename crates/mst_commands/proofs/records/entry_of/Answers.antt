@@ -1,7 +1,7 @@
 use Rattle.std.proofs.Common.{string_bytes, refl, sym, arith}
 use Rattle.std.proofs.lemmas.Result.{err_from_is_err_and}
 use Rattle.csv.specs.Records.{fields_of}
-use Rattle.store_table.specs.Values.{bytes_of}
+use Rattle.store_table.specs.Values.{bytes_of_value}
 use Rattle.mst_commands.proofs.CsvLemmas.{two_fields}
 use Rattle.mst_commands.proofs.MalformedLemmas.{ends-for, no-key, long-text}
 use Rattle.mst_commands.proofs.records.entry_of.Goals as goal
@@ -9,7 +9,7 @@ use Rattle.mst_commands.proofs.records.entry_of.Goals as goal
 pub returns-clause-says : goal.returns-clause-says
 returns-clause-says c = record {
   fields = (
-    two_fields (fields_of c.args.row.now) (string_bytes c.in_ok-key.key) (bytes_of c.in_ok-value.value) (omega arith) (sym c.in_ok-key.ensures.text) (sym c.in_ok-value.ensures.value.same),
+    two_fields (fields_of c.args.row.now) (string_bytes c.in_ok-key.key) (bytes_of_value c.in_ok-value.value) (omega arith) (sym c.in_ok-key.ensures.text) (sym c.in_ok-value.ensures.value.same),
     c.in_ok-value.ensures.value.formed,
   );
   time = refl;

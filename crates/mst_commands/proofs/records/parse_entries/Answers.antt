@@ -8,7 +8,8 @@ use Rattle.mst_commands.proofs.MalformedLemmas.{begins, ends-for, if-known}
 use Rattle.mst_commands.proofs.records.parse_entries.Goals as goal
 
 -- the records of a text that say these entries
-has_entries : (is_log : Bool) (text : Option (List ℕ)) (records : List (List (List ℕ))) (entries : List _) → AreAll text records → SayAll is_log records entries → IfSome text (λ bytes. HasEntries is_log bytes entries)
+has_entries : (is_log : Bool) (text : Option (List ℕ)) (records : List (List (List ℕ))) (entries : List _) → AreAll text records
+    → SayAll is_log records entries → IfSome text (λ bytes. HasEntries is_log bytes entries)
 has_entries is_log None records entries all say = tt
 has_entries is_log (Some bytes) records entries all say = (records, all, say)
 
@@ -67,7 +68,8 @@ returns-in_err-expect_header-clause-refused g c =
     let p = err_from_is_err_and c.from_residual-in_err-expect_header.result c.from_residual-in_err-expect_header.ensures.1 in
     let one = found_one c.in_ok-read_next.field-0 _ _ c.if-not-branch.false (c.in_ok-read_next.ensures.read text [] c.reader_of-reader.ensures) in
     let first = fields_of c.read_next.new.row in
-    rw (p.1, p.2) (ends-for c.in_err-expect_header.field-0.0 (λ other. if-known text (λ bytes begun. inr (first, begun, other)) (begins g.R.Read.remaining text (first ∷ []) c.read_next.new.reader one))
+    rw (p.1, p.2) (ends-for c.in_err-expect_header.field-0.0
+    (λ other. if-known text (λ bytes begun. inr (first, begun, other)) (begins g.R.Read.remaining text (first ∷ []) c.read_next.new.reader one))
     (λ no. absurd no) c.in_err-expect_header.ensures.other)
 
 pub returns-in_err-read_next-2-clause-refused : goal.returns-in_err-read_next-2-clause-refused

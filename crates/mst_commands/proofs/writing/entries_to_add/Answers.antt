@@ -9,7 +9,8 @@ returns-in_default-clause-added g c clean =
     let rows = c.in_ok-rows.rows.items in
     let last = c.latest_rows-last.result.items in
     let latest = c.in_ok-rows.ensures.latest clean in
-    if_ok c.all_dated.result _ _ (λ all dated. (rows, last, latest, c.latest_rows-last.ensures, subst (λ log. AreAdded log c.args.writer.now c.args.now rows last all.items) (sym c.in_default.is) dated))
+    if_ok c.all_dated.result _ _ (λ all dated.
+    (rows, last, latest, c.latest_rows-last.ensures, subst (λ log. AreAdded log c.args.writer.now c.args.now rows last all.items) (sym c.in_default.is) dated))
     ((rw c.deref.ensures.value at c.all_dated.ensures.dated) latest.2.ascending)
 
 -- of a log

@@ -38,7 +38,8 @@ showing-preserved g c =
     let items = c.args.items.now in
     let text = g.T.ReplyLine.line_text in
     let before = flat_map text (take i items) in
-    let next : before ++ text c.item-item.result ≡ flat_map text (take (i + 1) items) = ap (λ item. before ++ text item) c.item-item.is ∙ (texts_more text items i c.item-item.result c.showing-test.true ∙ ap (λ k. flat_map text (take k items)) (sym (add-one i))) in
+    let next : before ++ text c.item-item.result ≡ flat_map text (take (i + 1) items) = ap (λ item. before ++ text item) c.item-item.is
+    ∙ (texts_more text items i c.item-item.result c.showing-test.true ∙ ap (λ k. flat_map text (take k items)) (sym (add-one i))) in
     record {
       passed = passed_as _ _ p (before ++ text c.item-item.result) _ _ next (passed_more _ _ _ p _ _ before (text c.item-item.result) c.showing.invariant.passed c.in_ok-write_line.ensures.bytes);
       works = c.in_ok-write_line.ensures.failed ∙ c.showing.invariant.works;

@@ -9,7 +9,9 @@ returns-in_err-write-clause-bytes g c =
     let p = c.args.pending.now in
     let first = c.args.first.now in
     let second = c.args.second.now in
-    passes_err _ _ _ _ _ _ c.from_residual.ensures.0 (part_less _ _ p ((first ++ codes " ") ++ second) (newline ∷ []) (part_less _ _ p (first ++ codes " ") second (part_less _ _ p first (codes " ") c.in_err-write.ensures.bytes)))
+    passes_err _ _ _ _ _ _ c.from_residual.ensures.0
+    (part_less _ _ p ((first ++ codes " ") ++ second) (newline ∷ [])
+    (part_less _ _ p (first ++ codes " ") second (part_less _ _ p first (codes " ") c.in_err-write.ensures.bytes)))
 
 pub returns-in_err-write-2-clause-bytes : goal.returns-in_err-write-2-clause-bytes
 returns-in_err-write-2-clause-bytes g c =
@@ -25,7 +27,8 @@ returns-in_err-write-3-clause-bytes g c =
     let first = c.args.first.now in
     let second = c.args.second.now in
     let with_space = passed_more _ _ _ p _ _ first (codes " ") c.in_ok-write.ensures.bytes c.in_ok-write-2.ensures.bytes in
-    passes_err _ _ _ _ _ _ c.from_residual-in_err-write-3.ensures.0 (part_less _ _ p ((first ++ codes " ") ++ second) (newline ∷ []) (passed_part _ _ _ p _ (first ++ codes " ") second with_space c.in_err-write-3.ensures.bytes))
+    passes_err _ _ _ _ _ _ c.from_residual-in_err-write-3.ensures.0
+    (part_less _ _ p ((first ++ codes " ") ++ second) (newline ∷ []) (passed_part _ _ _ p _ (first ++ codes " ") second with_space c.in_err-write-3.ensures.bytes))
 
 pub returns-clause-bytes : goal.returns-clause-bytes
 returns-clause-bytes g c =

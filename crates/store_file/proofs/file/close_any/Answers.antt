@@ -29,7 +29,8 @@ returns-clause-copied g c is =
     let undone = c.rollback.ensures.undone.kept clean in
     let on = c.in_ok-copied.ensures.open none in
     let committed : (view last).committed ≡ (view c.args.store).committed = ap (λ (v : View). v.committed) (c.in_ok-copied.ensures.same on) ∙ undone.committed h in
-    subst (HoldsAlone image) committed (copied last g.met.D.Disk.seen_may_stay on (c.in_ok-is_store.ensures.tables is) (c.in_ok-copied.ensures.moved (c.rollback.ensures.logged (undone.was_open h))) image
+    subst (HoldsAlone image) committed
+    (copied last g.met.D.Disk.seen_may_stay on (c.in_ok-is_store.ensures.tables is) (c.in_ok-copied.ensures.moved (c.rollback.ensures.logged (undone.was_open h))) image
     (may_leave_is last.pool image here (subst (λ p. outcomes g.D.Disk p.0 p.1 image) c.close-files.ensures may))) in
     record { now = λ honest. (alone honest (image_of g.D.Disk files) (g.met.D.Disk.seen_may_stay files.log, g.met.D.Disk.seen_may_stay files.db)).both; later = alone }
 

@@ -1,7 +1,7 @@
 use Rattle.std.proofs.Common.{◌≢◌, ℕ, List, Option, Some, None, IfSome, rules, string_bytes}
 use Rattle.std.proofs.lemmas.Str.{IsUtf8-string_bytes}
 use Rattle.sqlite_value.specs.declared.value.Value.TheVariants.{Text as Words}
-use Rattle.store_table.specs.Entries.{value_of}
+use Rattle.store_table.specs.Entries.{value_cell}
 use Rattle.store_table.specs.Sifting.{IsNoText}
 use Rattle.store_table.specs.Values.{IsFormed}
 use Rattle.store_table.specs.declared.value.Value.{Value}
@@ -9,7 +9,7 @@ use Rattle.store_table.specs.declared.value.Value.TheVariants.{Text, Bytes}
 use Rattle.store_table.proofs.entry.value_in.Goals as goal
 
 -- bytes that are no text are no value where a text stands
-no_value : (bytes : List ℕ) → IsNoText (Words bytes) → (said : Option Value) → IfSome said IsFormed → Words bytes ≢ value_of said
+no_value : (bytes : List ℕ) → IsNoText (Words bytes) → (said : Option Value) → IfSome said IsFormed → Words bytes ≢ value_cell said
 no_value bytes none None formed is = let e = is in cc
 no_value bytes none (Some (Text text)) formed is = none (string_bytes text) (IsUtf8-string_bytes text) is
 no_value bytes none (Some (Bytes own)) formed is = let e = is in cc

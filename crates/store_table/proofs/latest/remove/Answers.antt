@@ -4,8 +4,10 @@ use Rattle.store_table.proofs.latest.remove.Goals as goal
 
 pub returns-clause-crash : goal.returns-clause-crash
 returns-clause-crash g c =
-    leaves_over g.S.Store c.args.log.now c.find.new.log c.write_over.new.log c.args.key.now c.in_ok-found.found c.args.writer c.args.now None c.in_ok-found.ensures.latest c.in_ok-found.ensures.unchanged c.find.ensures.steady c.find.ensures.crash c.write_over.ensures.crash
+    leaves_over g.S.Store c.args.log.now c.find.new.log c.write_over.new.log c.args.key.now c.in_ok-found.found c.args.writer c.args.now None
+    c.in_ok-found.ensures.latest c.in_ok-found.ensures.unchanged c.find.ensures.steady c.find.ensures.crash c.write_over.ensures.crash
 
 pub returns-in_err-write_over-clause-crash : goal.returns-in_err-write_over-clause-crash
 returns-in_err-write_over-clause-crash g c =
-    leaves_over g.S.Store c.args.log.now c.find.new.log c.write_over.new.log c.args.key.now c.in_ok-found.found c.args.writer c.args.now None c.in_ok-found.ensures.latest c.in_ok-found.ensures.unchanged c.find.ensures.steady c.find.ensures.crash c.write_over.ensures.crash
+    leaves_over g.S.Store c.args.log.now c.find.new.log c.write_over.new.log c.args.key.now c.in_ok-found.found c.args.writer c.args.now None
+    c.in_ok-found.ensures.latest c.in_ok-found.ensures.unchanged c.find.ensures.steady c.find.ensures.crash c.write_over.ensures.crash

@@ -3,7 +3,7 @@ use Rattle.sqlite_value.specs.Keys.{plain}
 use Rattle.sqlite_trees.specs.Tree.{IsIndex}
 use Rattle.sqlite_trees.specs.View.{IsShaped}
 use Rattle.store_table.specs.Logs.{IsClean, trees_of}
-use Rattle.store_table.specs.Reading.{Takes}
+use Rattle.store_table.specs.Reading.{TakesEntry}
 use Rattle.store_table.proofs.Reading.{reads_on, reads_all}
 use Rattle.store_table.proofs.Walking.{quiet_steady}
 use Rattle.store_table.proofs.reader.next_entry.Goals as goal
@@ -23,4 +23,4 @@ returns-in-Ok-clause-all g c is clean =
     let did = c.in-Ok.ensures in
     let early : IsClean s old = omega (arith, c.take_entry.ensures.uncommitted.quiet.clean, clean) in
     let shaped : IsIndex plain (trees_of s old 0) = subst (λ shape. IsShaped shape (trees_of s old 0)) (c.log.invariant.tables early).entries (g.met.S.Store.ordered old (did.sound clean) 0) in
-    rw (sym c.log.view_is) (reads_all s old new (subst (Takes (s.view old) (s.view new)) is (did.taken clean)) early shaped)
+    rw (sym c.log.view_is) (reads_all s old new (subst (TakesEntry (s.view old) (s.view new)) is (did.taken clean)) early shaped)

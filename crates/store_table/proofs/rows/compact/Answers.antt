@@ -19,12 +19,14 @@ returns-clause-left g c clean =
 
 pub returns-clause-crash : goal.returns-clause-crash
 returns-clause-crash g c =
-    compacts g.S.Store c.args.before c.in_ok-rows.rows.items c.args.log.now c.read_latest.new.log c.replace_all.new.log c.read_latest.ensures.steady c.in_ok-rows.ensures.latest c.in_ok-rows.ensures.unchanged
+    compacts g.S.Store c.args.before c.in_ok-rows.rows.items c.args.log.now c.read_latest.new.log c.replace_all.new.log c.read_latest.ensures.steady
+    c.in_ok-rows.ensures.latest c.in_ok-rows.ensures.unchanged
     c.read_latest.ensures.crash (rw (c.deref.ensures.value ∙ c.forget.ensures) at c.replace_all.ensures.crash)
 
 pub returns-in_err-replace_all-clause-crash : goal.returns-in_err-replace_all-clause-crash
 returns-in_err-replace_all-clause-crash g c =
-    compacts g.S.Store c.args.before c.in_ok-rows.rows.items c.args.log.now c.read_latest.new.log c.replace_all.new.log c.read_latest.ensures.steady c.in_ok-rows.ensures.latest c.in_ok-rows.ensures.unchanged
+    compacts g.S.Store c.args.before c.in_ok-rows.rows.items c.args.log.now c.read_latest.new.log c.replace_all.new.log c.read_latest.ensures.steady
+    c.in_ok-rows.ensures.latest c.in_ok-rows.ensures.unchanged
     c.read_latest.ensures.crash (rw (c.deref.ensures.value ∙ c.forget.ensures) at c.replace_all.ensures.crash)
 
 pub returns-in_err-replace_all-clause-late : goal.returns-in_err-replace_all-clause-late

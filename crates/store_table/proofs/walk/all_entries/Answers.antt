@@ -31,7 +31,8 @@ rows-preserved g c =
     let early : IsClean g.S.Store new → IsClean g.S.Store mid = λ clean. omega (arith, c.next.ensures.quiet.clean, clean) in
     record {
       live = did.stay 0 was.live;
-      passed = λ clean. given_more (trees_of g.S.Store old 0) (map entry_row c.rows.entries.items) (map entry_row c.push_entry.new.entries.items) _ _ (view mid) (view new) (search rules) (was.passed (early clean)) (did.ok clean) c.in_ok-push_entry.ensures.pushed;
+      passed = λ clean. given_more (trees_of g.S.Store old 0) (map entry_row c.rows.entries.items) (map entry_row c.push_entry.new.entries.items) _ _
+          (view mid) (view new) (search rules) (was.passed (early clean)) (did.ok clean) c.in_ok-push_entry.ensures.pushed;
       sound = λ clean. was.sound (early clean);
       same = λ clean. stays_then (view old) (view mid) (view new) (was.same (early clean)) (did.moves clean).same;
       uncommitted = uncommitted_then g.S.Store old mid new was.uncommitted

@@ -3,7 +3,7 @@ use Rattle.std.proofs.lemmas.List.{map_more}
 use Rattle.std.proofs.lemmas.List.Sums.{fold-append}
 use Rattle.sqlite_value.specs.Keys.{plain}
 use Rattle.sqlite_trees.specs.Tree.{insert_entry}
-use Rattle.store_table.specs.Entries.{entry_row, with_rows}
+use Rattle.store_table.specs.Entries.{entry_row, with_more_rows}
 use Rattle.store_table.specs.Logs.{IsClean, trees_of}
 use Rattle.store_table.proofs.Walking.{uncommitted_then, writes_then, tables_kept}
 use Rattle.store_table.proofs.walk.insert_all.Goals as goal
@@ -28,7 +28,8 @@ entries-preserved g c =
           let here = rw c.as_str.ensures.value at (did.added clean) in
           let start = trees_of g.S.Store old 0 in
           record {
-            entries = here.entries ∙ ap (insert_entry plain one) (was.added (early clean)).entries ∙ sym (fold-append (λ all row. insert_entry plain row all) start seen (one ∷ [])) ∙ ap (with_rows start) (sym more);
+            entries = here.entries ∙ ap (insert_entry plain one) (was.added (early clean)).entries
+                ∙ sym (fold-append (λ all row. insert_entry plain row all) start seen (one ∷ [])) ∙ ap (with_more_rows start) (sym more);
             about = here.about ∙ (was.added (early clean)).about;
           };
       frame = λ clean. writes_then (view old) (view mid) (view new) (was.frame (early clean)) (did.frame clean);

@@ -47,15 +47,18 @@ returns-then-not-go_on_apart-clause-refused g c =
     let left = c.args.reader.now.left.now in
     let rest = c.slice.new.self.left.now in
     refused_later total left (front_bytes c.in_ok-kept.kept c.in_ok-kept.more ++ c.in_ok-rest.rest.now) rest c.unexpected-then-not-go_on_apart.result
-    (c.in_ok-kept.ensures.read ∙ ap (λ t. front_bytes c.in_ok-kept.kept c.in_ok-kept.more ++ t) c.in_ok-rest.ensures.read ∙ sym (append_assoc (front_bytes c.in_ok-kept.kept c.in_ok-kept.more) c.in_ok-rest.rest.now rest))
-    (refused_here c.slice.new.self.total total rest Front c.unexpected-then-not-go_on_apart.result (c.in_ok-rest.ensures.total ∙ c.in_ok-kept.ensures.total) c.unexpected-then-not-go_on_apart.ensures tt)
+    (c.in_ok-kept.ensures.read ∙ ap (λ t. front_bytes c.in_ok-kept.kept c.in_ok-kept.more ++ t) c.in_ok-rest.ensures.read
+    ∙ sym (append_assoc (front_bytes c.in_ok-kept.kept c.in_ok-kept.more) c.in_ok-rest.rest.now rest))
+    (refused_here c.slice.new.self.total total rest Front c.unexpected-then-not-go_on_apart.result
+    (c.in_ok-rest.ensures.total ∙ c.in_ok-kept.ensures.total) c.unexpected-then-not-go_on_apart.ensures tt)
 
 pub returns-then-not-go_on_apart-clause-malformed : goal.returns-then-not-go_on_apart-clause-malformed
 returns-then-not-go_on_apart-clause-malformed g c = λ malformed key rest of e.
     let last = c.args.self.now in
     let k = g.K.Encode.encoding key in
     let own = c.in_ok-rest.rest.now in
-    let told = parts_told last k c.args.reader.now.left.now rest own c.slice.new.self.left.now c.in_ok-kept.kept c.in_ok-kept.more c.in_ok-rest.ensures.len (c.in_ok-kept.ensures.read ∙ ap (λ t. front_bytes c.in_ok-kept.kept c.in_ok-kept.more ++ t) c.in_ok-rest.ensures.read) e in
+    let told = parts_told last k c.args.reader.now.left.now rest own c.slice.new.self.left.now c.in_ok-kept.kept c.in_ok-kept.more c.in_ok-rest.ensures.len
+    (c.in_ok-kept.ensures.read ∙ ap (λ t. front_bytes c.in_ok-kept.kept c.in_ok-kept.more ++ t) c.in_ok-rest.ensures.read) e in
     let part_is : c.shareable-part.result.now ≡ shareable last = c.shareable-part.ensures ∙ ap shareable (c.deref.ensures.value ∙ c.self.view_is) in
     let after : c.split_at.result.1.now ≡ drop (kept_of last k) (shareable last) = c.split_at.ensures.back ∙ ap (drop c.in_ok-kept.kept) part_is ∙ ap (λ n. drop n (shareable last)) told.0 in
     absurd (let wrong = c.if-not-go_on_apart.ensures.1 (rw after (rw told.1 (shares_no_more (shareable last) k).ends)) in cc)
@@ -82,7 +85,8 @@ returns-in-Err-Unexpected-clause-refused g c =
     let left = c.args.reader.now.left.now in
     let rest = c.slice.new.self.left.now in
     refused_later total left (front_bytes c.in_ok-kept.kept c.in_ok-kept.more ++ c.in_ok-rest.rest.now) rest c.unexpected-in-Err-Unexpected.result
-    (c.in_ok-kept.ensures.read ∙ ap (λ t. front_bytes c.in_ok-kept.kept c.in_ok-kept.more ++ t) c.in_ok-rest.ensures.read ∙ sym (append_assoc (front_bytes c.in_ok-kept.kept c.in_ok-kept.more) c.in_ok-rest.rest.now rest))
+    (c.in_ok-kept.ensures.read ∙ ap (λ t. front_bytes c.in_ok-kept.kept c.in_ok-kept.more ++ t) c.in_ok-rest.ensures.read
+    ∙ sym (append_assoc (front_bytes c.in_ok-kept.kept c.in_ok-kept.more) c.in_ok-rest.rest.now rest))
     (refused_here c.slice.new.self.total total rest Key c.unexpected-in-Err-Unexpected.result (c.in_ok-rest.ensures.total ∙ c.in_ok-kept.ensures.total) c.unexpected-in-Err-Unexpected.ensures tt)
 
 pub returns-in-Err-Unexpected-clause-malformed : goal.returns-in-Err-Unexpected-clause-malformed
@@ -92,5 +96,6 @@ returns-in-Err-Unexpected-clause-malformed g c = λ malformed key rest of e.
     let own = c.in_ok-rest.rest.now in
     let told = parts_told last k c.args.reader.now.left.now rest own c.slice.new.self.left.now c.in_ok-kept.kept c.in_ok-kept.more c.in_ok-rest.ensures.len
     (c.in_ok-kept.ensures.read ∙ ap (λ t. front_bytes c.in_ok-kept.kept c.in_ok-kept.more ++ t) c.in_ok-rest.ensures.read) e in
-    let bytes : c.deref-2.result.now ≡ take c.in_ok-kept.kept last ++ own = c.deref-2.ensures.value ∙ c.in_ok-extend_from_slice.ensures.items ∙ ap (λ t. t ++ own) (c.truncate.ensures.items ∙ ap (take c.in_ok-kept.kept) c.self.view_is) in
+    let bytes : c.deref-2.result.now ≡ take c.in_ok-kept.kept last ++ own = c.deref-2.ensures.value ∙ c.in_ok-extend_from_slice.ensures.items
+    ∙ ap (λ t. t ++ own) (c.truncate.ensures.items ∙ ap (take c.in_ok-kept.kept) c.self.view_is) in
     c.in-Err-Unexpected.ensures.malformed (subst IsMalformed (sym c.in-Err-Unexpected.field-0-is) tt) key of (bytes ∙ key_is last k own c.in_ok-kept.kept told.0 told.1)

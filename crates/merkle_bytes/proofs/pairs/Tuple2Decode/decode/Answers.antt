@@ -7,7 +7,8 @@ use Rattle.merkle_bytes.proofs.pairs.Tuple2Decode.decode.Goals as goal
 pub returns-in_err-second-clause-refused : goal.returns-in_err-second-clause-refused
 returns-in_err-second-clause-refused g c =
     let p = err_from_is_err_and c.from_residual-in_err-second.result c.from_residual-in_err-second.ensures.1 in
-    rw (p.1, p.2) (refused_later c.args.reader.now.total c.args.reader.now.left.now (g.A.Encode.encoding c.in_ok-first.first) c.decode.new.reader.left.now c.in_err-second.field-0.0 c.in_ok-first.ensures.read
+    rw (p.1, p.2) (refused_later c.args.reader.now.total c.args.reader.now.left.now
+    (g.A.Encode.encoding c.in_ok-first.first) c.decode.new.reader.left.now c.in_err-second.field-0.0 c.in_ok-first.ensures.read
     (total_was c.decode.new.reader.total c.args.reader.now.total c.decode.new.reader.left.now c.in_err-second.field-0.0 c.decode.ensures.total c.in_err-second.ensures.refused))
 
 pub returns-in_err-second-clause-malformed : goal.returns-in_err-second-clause-malformed

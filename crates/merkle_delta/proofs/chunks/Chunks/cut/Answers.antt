@@ -8,9 +8,11 @@ pub bytes-preserved : goal.bytes-preserved
 bytes-preserved c =
     let low : c.bytes.at < length c.args.bytes.items = search rules in
     elim c.if-ends_chunk.branch [
-      | then-ends_chunk+in_ok-push w ↦ cut_ends c.args.bytes.items c.bytes.ranges.items c.if-ends_chunk.ranges.items c.bytes.window c.window_with-window.result c.bytes.start c.bytes.at c.if-ends_chunk.start c.index.result.now
+      | then-ends_chunk+in_ok-push w ↦ cut_ends c.args.bytes.items c.bytes.ranges.items c.if-ends_chunk.ranges.items c.bytes.window c.window_with-window.result
+          c.bytes.start c.bytes.at c.if-ends_chunk.start c.index.result.now
           c.bytes.invariant low c.index.ensures c.window_with-window.ensures (sym c.ends_chunk.ensures ∙ w.if-ends_chunk.true) (ap (λ v. v.items) w.ranges-is ∙ w.in_ok-push.ensures.items) w.start-is
-      | else-ends_chunk w ↦ cut_goes_on c.args.bytes.items c.bytes.ranges.items c.if-ends_chunk.ranges.items c.bytes.window c.window_with-window.result c.bytes.start c.bytes.at c.if-ends_chunk.start c.index.result.now
+      | else-ends_chunk w ↦ cut_goes_on c.args.bytes.items c.bytes.ranges.items c.if-ends_chunk.ranges.items c.bytes.window c.window_with-window.result
+          c.bytes.start c.bytes.at c.if-ends_chunk.start c.index.result.now
           c.bytes.invariant low c.index.ensures c.window_with-window.ensures (sym c.ends_chunk.ensures ∙ w.if-ends_chunk.false) (ap (λ v. v.items) w.ranges-is) w.start-is
     ]
 

@@ -12,4 +12,7 @@ returns-clause-same_keys g c =
     let items = c.self.inside.ranges.items in
     let new = c.merged.result.items in
     rw (← c.self.view_is)
-    (λ k. (merge-to g.K.Ord.cmp g.met.K.Ord.total k (spans items) (spans new) (spans-ordered items) c.merged.ensures, merge-from g.K.Ord.cmp g.met.K.Ord.total k (spans items) (spans new) (spans-ordered items) c.merged.ensures))
+    (λ k. (
+      merge-to g.K.Ord.cmp g.met.K.Ord.total k (spans items) (spans new) (spans-ordered items) c.merged.ensures,
+      merge-from g.K.Ord.cmp g.met.K.Ord.total k (spans items) (spans new) (spans-ordered items) c.merged.ensures,
+    ))

@@ -25,4 +25,5 @@ returns c = λ key written held.
     let piece : List ℕ = take (length bytes - 8 * q) (drop (8 * q) bytes) in
     let behind : piece ≡ drop a bytes = take_all (length bytes - 8 * q) (drop (8 * q) bytes) (omega (arith, length-drop (8 * q) bytes)) ∙ ap (λ n. drop n bytes) end in
     subst (λ xs. Holds c.write_word-2.new.self key xs) (append_assoc written (take a bytes) piece ∙ ap (λ xs. written ++ xs) (ap (λ ys. take a bytes ++ ys) behind ∙ take-append-drop a bytes))
-    (c.write_word-2.ensures key (written ++ take a bytes) piece (c.words.invariant key written held) (are-take (length bytes - 8 * q) (drop (8 * q) bytes) (are-drop (8 * q) bytes all)) refl c.read_part.ensures.word)
+    (c.write_word-2.ensures key (written ++ take a bytes) piece (c.words.invariant key written held)
+    (are-take (length bytes - 8 * q) (drop (8 * q) bytes) (are-drop (8 * q) bytes all)) refl c.read_part.ensures.word)

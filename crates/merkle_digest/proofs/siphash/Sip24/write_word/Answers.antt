@@ -14,7 +14,8 @@ returns c = λ key written piece held bytes len is.
           (ap (λ (s : Sip24). s.state) w.self-is) (ap (λ (s : Sip24). s.tail) w.self-is)
           (ap (λ (s : Sip24). (s.length + c.args.count) % 256) w.self-is ∙ ap (λ n. (h.length + n) % 256) (sym len))
       | else-used-count-lt8 w ↦
-          Holds_full h _ key written piece c.args.bytes held bytes (omega (arith, c.requires.few)) is (below-more c.args.bytes c.args.count 8 c.requires.few c.requires.below) (omega (arith, w.if-used-count-lt8.false))
+          Holds_full h _ key written piece c.args.bytes held bytes (omega (arith, c.requires.few)) is
+          (below-more c.args.bytes c.args.count 8 c.requires.few c.requires.below) (omega (arith, w.if-used-count-lt8.false))
           (ap (λ (s : Sip24). s.state) w.self-is ∙ w.absorb_word.ensures) (ap (λ (s : Sip24). s.tail) w.self-is)
           (ap (λ (s : Sip24). (s.length + c.args.count) % 256) w.self-is ∙ ap (λ n. (h.length + n) % 256) (sym len))
     ]

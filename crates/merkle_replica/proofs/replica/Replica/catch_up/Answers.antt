@@ -22,10 +22,12 @@ same_local : (g : Over) (c : After-join_sparse g) → side c.hash.new.self ≡ s
 same_local g c = same_side c.args.self.now c.hash.new.self c.hash.ensures.rows (ap (λ t. t.hasher) c.hash.ensures.tree, ap (λ t. t.base) c.hash.ensures.tree, ap (λ t. t.format) c.hash.ensures.tree)
 
 same_peer : (g : Over) (c : After-join_sparse g) → side c.hash-2.new.self ≡ side c.args.peer.now
-same_peer g c = same_side c.args.peer.now c.hash-2.new.self c.hash-2.ensures.rows (ap (λ t. t.hasher) c.hash-2.ensures.tree, ap (λ t. t.base) c.hash-2.ensures.tree, ap (λ t. t.format) c.hash-2.ensures.tree)
+same_peer g c = same_side c.args.peer.now c.hash-2.new.self c.hash-2.ensures.rows
+    (ap (λ t. t.hasher) c.hash-2.ensures.tree, ap (λ t. t.base) c.hash-2.ensures.tree, ap (λ t. t.format) c.hash-2.ensures.tree)
 
 -- this many rows came as the two sides were missing at first: copies of the peer's, at keys in ascending order
-came : (g : Over) (c : After-join_sparse g) → (keys : List g.row.K.Denot) × (c.in-Ok.caught.joined ≡ length keys) × IsAscending g.K.Ord.cmp keys × HasFound (laws_for g) (side c.args.self.now) (side c.args.peer.now) keys
+came : (g : Over) (c : After-join_sparse g) → (keys : List g.row.K.Denot) × (c.in-Ok.caught.joined ≡ length keys) × IsAscending g.K.Ord.cmp keys
+    × HasFound (laws_for g) (side c.args.self.now) (side c.args.peer.now) keys
     × AreCopies g.K.Ord.cmp g.V.PartialEq.eq c.args.peer.now.rows keys c.in-Ok.rows.items
 came g c =
     let laws = laws_for g in
@@ -51,7 +53,8 @@ returns-in-Ok-join_sparse-clause-done g c = rw g.met.H.RowHasher.laws_are (
     let (keys, counted, ascending, found, are) = came g (goal.at.returns-in-Ok-join_sparse-clause-done g c).After-join_sparse in (
       keys,
       counted,
-      caught_up laws g.met.K.Ord.total (side c.args.self.now) (side c.args.peer.now) g.met.V.Eq.laws g.met.V.Join.joining keys c.in-Ok.rows.items c.rows_ascend-2.ensures ascending found are c.join_sparse.new.self.rows
+      caught_up laws g.met.K.Ord.total (side c.args.self.now)
+          (side c.args.peer.now) g.met.V.Eq.laws g.met.V.Join.joining keys c.in-Ok.rows.items c.rows_ascend-2.ensures ascending found are c.join_sparse.new.self.rows
           (subst (λ rows. HasGathered laws.cmp laws.eq laws.join rows c.in-Ok.rows.items c.join_sparse.new.self.rows) c.hash.ensures.rows c.in-Ok-join_sparse.ensures.all),
     ))
 
@@ -78,7 +81,8 @@ returns-in-Err-clause-refused g c = rw g.met.H.RowHasher.laws_are (
     let (keys, counted, ascending, found, are) = came g (goal.at.returns-in-Err-clause-refused g c).After-join_sparse in (
       keys,
       counted,
-      partly_caught_up laws g.met.K.Ord.total (side c.args.self.now) (side c.args.peer.now) g.met.V.Eq.laws g.met.V.Join.joining keys c.in-Ok.rows.items c.rows_ascend-2.ensures ascending found are c.in-Err.done
+      partly_caught_up laws g.met.K.Ord.total (side c.args.self.now)
+          (side c.args.peer.now) g.met.V.Eq.laws g.met.V.Join.joining keys c.in-Ok.rows.items c.rows_ascend-2.ensures ascending found are c.in-Err.done
           c.join_sparse.new.self.rows c.in-Err.done-test.1
           (subst (λ rows. IsGatheredTo laws.cmp laws.eq laws.join rows c.in-Ok.rows.items c.join_sparse.new.self.rows c.in-Err.done) c.hash.ensures.rows c.in-Err.ensures.cut),
     ))

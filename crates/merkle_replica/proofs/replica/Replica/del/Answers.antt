@@ -30,7 +30,9 @@ returns-in_err-remove-clause-succeeds_absent g c =
     let rows = c.self.inside.rows.items in
     let place : IsPlaceOf cmp k rows c.in-Ok.at = rw (← c.deref.ensures.value) c.in-Ok.ensures.found in
     λ e.
-    let there : true ≡ has_key cmp c.args.self.now.rows k = subst (λ (v : Contents g.row.K.Denot g.row.V.Denot g.row.H.Denot). true ≡ has_key cmp v.rows k) c.self.view_is (sym (has_there cmp g.met.K.Ord.total rows c.in-Ok.at k place)) in
+    let there : true ≡ has_key cmp c.args.self.now.rows k =
+    subst (λ (v : Contents g.row.K.Denot g.row.V.Denot g.row.H.Denot). true ≡ has_key cmp v.rows k) c.self.view_is
+    (sym (has_there cmp g.met.K.Ord.total rows c.in-Ok.at k place)) in
     let never : true ≡ false = there ∙ e in
     absurd (cc)
 

@@ -26,8 +26,10 @@ returns-then-is_err-clause-cut g c =
     let i = c.joining.invariant in
     let same = refused c.put.result (sym c.is_err.ensures.value ∙ c.if-is_err.true) c.put.ensures.unchanged in
     let steps : into_iter_items c.joining.row-iterator ≡ c.in-Some.row ∷ into_iter_items c.next.new.self = c.in-Some.ensures.steps.0 in
-    subst (λ (v : Contents g.row.K.Denot g.row.V.Denot g.row.H.Denot). IsGatheredTo g.K.Ord.cmp g.V.PartialEq.eq g.V.Join.join_of c.args.self.now.rows c.args.theirs.items v.rows c.joining.done) (sym same)
-    (gathered_to g.K.Ord.cmp g.met.K.Ord.total g.V.PartialEq.eq g.V.Join.join_of c.args.self.now.rows c.joining.yielded (into_iter_items c.next.new.self) c.args.theirs.items c.joining.self.rows c.in-Some.row c.joining.done
+    subst (λ (v : Contents g.row.K.Denot g.row.V.Denot g.row.H.Denot). IsGatheredTo g.K.Ord.cmp g.V.PartialEq.eq g.V.Join.join_of c.args.self.now.rows
+    c.args.theirs.items v.rows c.joining.done) (sym same)
+    (gathered_to g.K.Ord.cmp g.met.K.Ord.total g.V.PartialEq.eq g.V.Join.join_of c.args.self.now.rows c.joining.yielded
+    (into_iter_items c.next.new.self) c.args.theirs.items c.joining.self.rows c.in-Some.row c.joining.done
     (rw (← steps) i.left) i.taken i.gathers i.unchanged)
 
 pub joining-preserved : goal.joining-preserved
@@ -41,7 +43,8 @@ joining-preserved g c =
       left = given.0;
       count = given.1;
       taken = length-append c.joining.yielded (r ∷ []) ∙ ap (λ n. n + 1) i.taken;
-      gathers = gathers_more cmp g.met.K.Ord.total g.V.PartialEq.eq g.met.V.Eq.laws g.V.Join.join_of g.met.V.Join.joining c.args.self.now.rows c.joining.yielded c.joining.self.rows c.put.new.self.rows r i.gathers joined;
+      gathers = gathers_more cmp g.met.K.Ord.total g.V.PartialEq.eq g.met.V.Eq.laws g.V.Join.join_of g.met.V.Join.joining c.args.self.now.rows c.joining.yielded
+          c.joining.self.rows c.put.new.self.rows r i.gathers joined;
       unchanged = λ z. absurd (omega (arith, z));
       hasher = c.put.ensures.settings.0 ∙ i.hasher;
       base = c.put.ensures.settings.1 ∙ i.base;

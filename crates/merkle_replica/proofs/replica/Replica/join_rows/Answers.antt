@@ -11,13 +11,19 @@ join_rising-requires g c =
 pub returns-in-Ok-clause-joined : goal.returns-in-Ok-clause-joined
 returns-in-Ok-clause-joined g c =
     let up : IsMap g.K.Ord.cmp c.args.rows.items = subst (IsMap g.K.Ord.cmp) c.deref.ensures.value (c.ascend.ensures.0 c.if-not-ascend.false) in
-    gathers_map g.K.Ord.cmp g.met.K.Ord.total g.V.PartialEq.eq g.met.V.Eq.laws g.V.Join.join_of g.met.V.Join.joining c.args.self.now.rows c.args.rows.items c.join_rising.new.self.rows up c.in-Ok.ensures.all
+    gathers_map g.K.Ord.cmp g.met.K.Ord.total g.V.PartialEq.eq g.met.V.Eq.laws g.V.Join.join_of g.met.V.Join.joining c.args.self.now.rows c.args.rows.items
+    c.join_rising.new.self.rows up c.in-Ok.ensures.all
 
 pub returns-in-Err-clause-refused : goal.returns-in-Err-clause-refused
 returns-in-Err-clause-refused g c =
     let up : IsMap g.K.Ord.cmp c.args.rows.items = subst (IsMap g.K.Ord.cmp) c.deref.ensures.value (c.ascend.ensures.0 c.if-not-ascend.false) in
-    let cut = c.in-Err.ensures.cut in
-    (up, cut.not_all, gathers_map g.K.Ord.cmp g.met.K.Ord.total g.V.PartialEq.eq g.met.V.Eq.laws g.V.Join.join_of g.met.V.Join.joining c.args.self.now.rows (take c.in-Err.done c.args.rows.items) c.join_rising.new.self.rows (map_taken g.K.Ord.cmp g.met.K.Ord.total c.args.rows.items c.in-Err.done up) cut.gathers, cut.unchanged)
+    let cut = c.in-Err.ensures.cut in (
+      up,
+      cut.not_all,
+      gathers_map g.K.Ord.cmp g.met.K.Ord.total g.V.PartialEq.eq g.met.V.Eq.laws g.V.Join.join_of g.met.V.Join.joining c.args.self.now.rows
+          (take c.in-Err.done c.args.rows.items) c.join_rising.new.self.rows (map_taken g.K.Ord.cmp g.met.K.Ord.total c.args.rows.items c.in-Err.done up) cut.gathers,
+      cut.unchanged,
+    )
 
 pub returns-in-Ok-clause-unchanged : goal.returns-in-Ok-clause-unchanged
 returns-in-Ok-clause-unchanged g c =

@@ -14,8 +14,12 @@ copies_at-requires g c =
     let o = g.met.K.Ord.total in
     let local = side c.args.self.now in
     let peer = side c.args.peer.now in
-    let found = found_once laws o local peer (keys_of c.in_ok-lacked.lacked.keys.items) (keys_of c.in_ok-keys.keys.items) c.in_ok-keys.ensures (rw g.met.H.RowHasher.laws_are at c.in_ok-lacked.ensures.found) in
-    (search rules, (subst (λ ks. AllByRecursion (λ k. IsPresent (get laws.cmp peer.rows k)) (keys_of ks)) (sym c.deref.ensures.value) (lacked_there laws o local peer (keys_of c.in_ok-keys.keys.items) found.lacked)))
+    let found = found_once laws o local peer (keys_of c.in_ok-lacked.lacked.keys.items) (keys_of c.in_ok-keys.keys.items) c.in_ok-keys.ensures
+    (rw g.met.H.RowHasher.laws_are at c.in_ok-lacked.ensures.found) in (
+      search rules,
+      (subst (λ ks. AllByRecursion (λ k. IsPresent (get laws.cmp peer.rows k)) (keys_of ks)) (sym c.deref.ensures.value)
+          (lacked_there laws o local peer (keys_of c.in_ok-keys.keys.items) found.lacked)),
+    )
 
 pub returns-clause-rows : goal.returns-clause-rows
 returns-clause-rows g c = rw g.met.H.RowHasher.laws_are (

@@ -2,7 +2,7 @@ use Rattle.std.proofs.Common.{take, ap, sym, ◌∙◌, ◌++◌}
 use Rattle.std.proofs.lemmas.List.{map-append, take_all}
 use Rattle.std.specs.List.{flat_map}
 use Rattle.merkle_tree_theory.specs.Outline.{outline_over}
-use Rattle.merkle_search_tree.specs.Items.{gap_of, item, items}
+use Rattle.merkle_search_tree.specs.Items.{lent_gap, item, items}
 use Rattle.merkle_replica.specs.Descent.{gaps_of}
 use Rattle.merkle_replica.proofs.Descents.{flat_step}
 use Rattle.merkle_replica.proofs.replica.Replica.outlines.Goals as goal
@@ -17,7 +17,7 @@ gaps-preserved g c =
     let one = (rw c.tree.ensures.tree at (rw c.in-Some.is at c.in_ok-outline.ensures.items)).1 ∙ ap outline c.copied.ensures in
     ap items c.in_ok-append-in-Some.ensures.items ∙ map-append item c.gaps.all.items c.in-Some.outline.items
     ∙ ap (λ es. es ++ items c.in-Some.outline.items) c.gaps.invariant ∙ ap (λ es. flat_map outline (gaps_of (take c.gaps.gap-index c.args.gaps.now)) ++ es) one
-    ∙ sym (flat_step gap_of outline c.args.gaps.now c.gaps.gap-index c.gap-item.result c.gaps-test.true c.gap-item.is)
+    ∙ sym (flat_step lent_gap outline c.args.gaps.now c.gaps.gap-index c.gap-item.result c.gaps-test.true c.gap-item.is)
 
 pub returns : goal.returns
 returns g c =

@@ -33,5 +33,6 @@ returns-in-Err-clause-cut g c =
     let sorted = went_well c.sort_by.result (sym c.is_ok-is_sorted.ensures.value ∙ c.if-not-is_sorted.false) c.sort_by.ensures.sorted in
     let rises = sorted_rises cmp o c.sort_by.new.self.items (sorted (lower cmp o) (rows_compare cmp o) (always_returns_same _ _ _ (λ a r f called. (ap is_lt (search rules), search rules)))) in
     let stable = c.sort_by.ensures.stable (lower cmp o) (rows_compare cmp o) (always_returns_same _ _ _ (λ a r f called. (ap is_lt (search rules), search rules))) in
-    puts_to cmp o g.V.PartialEq.eq g.met.V.Eq.laws g.V.Join.join_of g.met.V.Join.joining c.args.rows.items c.sort_by.new.self.items c.args.self.now.rows c.join_rising.new.self.rows c.in-Err.done c.rows_ascend.ensures
+    puts_to cmp o g.V.PartialEq.eq g.met.V.Eq.laws g.V.Join.join_of g.met.V.Join.joining c.args.rows.items c.sort_by.new.self.items c.args.self.now.rows
+    c.join_rising.new.self.rows c.in-Err.done c.rows_ascend.ensures
     (search rules) (c.sort_by.ensures.permutation, rises, stable) c.in-Err.ensures.cut

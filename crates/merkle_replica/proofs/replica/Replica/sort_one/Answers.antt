@@ -1,6 +1,6 @@
 use Rattle.std.proofs.Common.{◌≡◌, ◌++◌, ◌∷◌, [], true, false, inl, inr, refl, sym, ap, subst, ◌∙◌, append-nil}
 use Rattle.std.proofs.lemmas.List.{map-append}
-use Rattle.merkle_search_tree.specs.Items.{gap_of, item as item_of}
+use Rattle.merkle_search_tree.specs.Items.{lent_gap, item as item_of}
 use Rattle.merkle_replica.specs.Contents.{side}
 use Rattle.merkle_replica.specs.Descent.{HasSortedOut, gaps_of, keys_of}
 use Rattle.merkle_replica.proofs.SideLaws.{laws_of}
@@ -41,9 +41,9 @@ returns-in_ok-push-in-Page g c = rw g.met.H.RowHasher.laws_are (
     let gaps = gaps_of c.args.asked.now.gaps.items in
     let keys = keys_of c.args.asked.now.keys.items in
     subst (λ e. HasSortedOut laws (side c.args.self.now) e gaps keys (gaps_of c.push-in-Page.new.self.items) keys) (sym (ap item_of c.in-Page.is)) (
-      gap_of c.in-Page.gap ∷ [],
+      lent_gap c.in-Page.gap ∷ [],
       [],
       (refl, inr (sym (rw g.met.H.RowHasher.laws_are at c.has_page.ensures) ∙ c.if-has_page.false, refl)),
-      ap gaps_of c.in_ok-push-in-Page.ensures.items ∙ map-append gap_of c.args.asked.now.gaps.items (c.copied.result ∷ []) ∙ ap (λ g. gaps ++ g ∷ []) c.copied.ensures,
+      ap gaps_of c.in_ok-push-in-Page.ensures.items ∙ map-append lent_gap c.args.asked.now.gaps.items (c.copied.result ∷ []) ∙ ap (λ g. gaps ++ g ∷ []) c.copied.ensures,
       sym (append-nil keys),
     ))

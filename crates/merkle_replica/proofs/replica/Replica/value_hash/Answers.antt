@@ -8,4 +8,5 @@ use Rattle.merkle_replica.proofs.replica.Replica.value_hash.Goals as goal
 pub returns : goal.returns
 returns g c = rw g.met.H.RowHasher.laws_are (
     let laws = laws_of g.K.Ord.cmp g.K.KeyBytes.bytes_of g.H.Hasher-1.digest_of g.V.PartialEq.eq g.V.Join.join_of g.H.Hasher-2.digest_of in
-    (rw c.tree.ensures.tree at c.value_hash.ensures) ∙ same_get g.K.Ord.cmp g.met.K.Ord.total (map_of c.args.self.now.tree) (tree_map laws (side c.args.self.now)) c.tree.ensures.digests c.args.key.now)
+    (rw c.tree.ensures.tree at c.value_hash.ensures)
+    ∙ same_get g.K.Ord.cmp g.met.K.Ord.total (map_of c.args.self.now.tree) (tree_map laws (side c.args.self.now)) c.tree.ensures.digests c.args.key.now)

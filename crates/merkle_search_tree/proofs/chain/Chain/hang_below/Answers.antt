@@ -13,10 +13,13 @@ hang-preserved g c =
       | then-len-stale w ↦
           ap (λ b. page_chain with_high n bs (below b.value)) w.page-is
           ∙ hang_stale with_high n bs c.in-Some.page (held_of c.hang.held) c.deref_mut.result.now c.hang_high.new.self w.drop_digest.new.self c.deref_mut.ensures.value c.hang_high.ensures
-          (w.drop_digest.ensures ∙ ap (λ (x : Tree g.row.K.Denot g.row.D.Denot). page_with_row 1 x (row_of_page x)) w.deref_mut-then-len-stale.ensures.value) (omega (arith, w.if-len-stale.true, c.len.ensures, c.pop.new.self.ok.0))
+          (w.drop_digest.ensures ∙ ap (λ (x : Tree g.row.K.Denot g.row.D.Denot). page_with_row 1 x (row_of_page x)) w.deref_mut-then-len-stale.ensures.value)
+          (omega (arith, w.if-len-stale.true, c.len.ensures, c.pop.new.self.ok.0))
           ∙ ap (λ xs. page_chain with_high n xs (held_of c.hang.held)) (sym c.in-Some.ensures.items) ∙ c.hang.invariant
       | else-len-stale w ↦
           ap (λ b. page_chain with_high n bs (below b.value)) w.page-is
-          ∙ hang_kept with_high n bs c.in-Some.page (held_of c.hang.held) c.deref_mut.result.now c.hang_high.new.self c.deref_mut.ensures.value c.hang_high.ensures (omega (arith, w.if-len-stale.false, c.len.ensures, c.pop.new.self.ok.0))
+          ∙ hang_kept with_high n bs c.in-Some.page
+          (held_of c.hang.held) c.deref_mut.result.now c.hang_high.new.self c.deref_mut.ensures.value c.hang_high.ensures
+          (omega (arith, w.if-len-stale.false, c.len.ensures, c.pop.new.self.ok.0))
           ∙ ap (λ xs. page_chain with_high n xs (held_of c.hang.held)) (sym c.in-Some.ensures.items) ∙ c.hang.invariant
     ]

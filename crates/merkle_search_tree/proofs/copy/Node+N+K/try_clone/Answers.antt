@@ -9,5 +9,6 @@ use Rattle.merkle_search_tree.proofs.copy.Node+N+K.try_clone.Goals as goal
 pub returns-clause-equal : goal.returns-clause-equal
 returns-clause-equal g c = λ same.
     IfOk-weaker c.copied.result _ _
-    (λ copy h. node_equal (option_eq (pointwise nat_eq)) g.K.PartialEq.eq (pointwise nat_eq) (search (comparing, rules)) g.met.K.PartialEq.laws (search (comparing, rules)) g.K.Clone.is_clone same c.args.self.now copy h)
+    (λ copy h. node_equal (option_eq (pointwise nat_eq)) g.K.PartialEq.eq (pointwise nat_eq) (search (comparing, rules)) g.met.K.PartialEq.laws
+    (search (comparing, rules)) g.K.Clone.is_clone same c.args.self.now copy h)
     c.copied.ensures

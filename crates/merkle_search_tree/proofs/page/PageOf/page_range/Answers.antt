@@ -22,5 +22,6 @@ returns g c =
     let last : Some b ≡ last_key_of (pairs c.args.self.now) = c.in_ok-last.ensures in
     made-range cmp entry c.try_new.result a b d c.try_new.ensures.in_order c.try_new.ensures.range
     ∙ range-ends cmp s.level s.tree_hash s.nodes.items (held_of s.high_page) d a b digest some
-    (first ∙ ap (λ (n : Tree g.row.K.Denot g.row.D.Denot). first_key_of (pairs n)) (sym c.self.view_is)) (last ∙ ap (λ (n : Tree g.row.K.Denot g.row.D.Denot). last_key_of (pairs n)) (sym c.self.view_is))
+    (first ∙ ap (λ (n : Tree g.row.K.Denot g.row.D.Denot). first_key_of (pairs n)) (sym c.self.view_is))
+    (last ∙ ap (λ (n : Tree g.row.K.Denot g.row.D.Denot). last_key_of (pairs n)) (sym c.self.view_is))
     ∙ ap (range_of cmp) c.self.view_is

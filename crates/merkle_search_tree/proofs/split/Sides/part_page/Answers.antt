@@ -13,7 +13,8 @@ take_first-first-requires-in-Inside g c =
     let t = c.args.page.value in
     let i = c.in-Inside.at in
     let parting = subst (PartsNodes (page_length t)) c.in-Inside.is c.requires.parting in
-    let goes = c.deref_mut-in-Inside-2.ensures.value ∙ c.part-upper.ensures.goes ∙ ap (λ (x : Tree g.row.K.Denot g.row.D.Denot). page_with_row 1 x (row_drop i (row_of_page x))) c.deref_mut-in-Inside.ensures.value in
+    let goes = c.deref_mut-in-Inside-2.ensures.value ∙ c.part-upper.ensures.goes
+    ∙ ap (λ (x : Tree g.row.K.Denot g.row.D.Denot). page_with_row 1 x (row_drop i (row_of_page x))) c.deref_mut-in-Inside.ensures.value in
     omega (arith, ap page_length goes, length_remade t i, parting.1)
 
 pub returns-in-Start-clause-parts : goal.returns-in-Start-clause-parts
@@ -31,7 +32,8 @@ returns-in-Inside-clause-gap g c = λ cmp key fits.
     let t = c.args.page.value in
     let i = c.in-Inside.at in
     let at = (subst (PartingFits cmp key (row_of_page t)) c.in-Inside.is fits).1 in
-    let goes = c.deref_mut-in-Inside-2.ensures.value ∙ c.part-upper.ensures.goes ∙ ap (λ (x : Tree g.row.K.Denot g.row.D.Denot). page_with_row 1 x (row_drop i (row_of_page x))) c.deref_mut-in-Inside.ensures.value in
+    let goes = c.deref_mut-in-Inside-2.ensures.value ∙ c.part-upper.ensures.goes
+    ∙ ap (λ (x : Tree g.row.K.Denot g.row.D.Denot). page_with_row 1 x (row_drop i (row_of_page x))) c.deref_mut-in-Inside.ensures.value in
     c.take_first-first-in-Inside.ensures.taken ∙ ap (λ (x : Tree g.row.K.Denot g.row.D.Denot). first_of (row_of_page x)) goes ∙ first-remade t i ∙ sym (gap-at cmp key (row_of_page t) i at)
 
 pub returns-in-Inside-clause-parts : goal.returns-in-Inside-clause-parts
@@ -40,11 +42,14 @@ returns-in-Inside-clause-parts g c = λ cmp key whole fits inv.
     let i = c.in-Inside.at in
     let parting = subst (PartingFits cmp key (row_of_page t)) c.in-Inside.is fits in
     let page = c.deref_mut-in-Inside.ensures.value in
-    let goes : c.deref_mut-in-Inside-2.result.now ≡ page_with_row 1 t (row_drop i (row_of_page t)) = c.deref_mut-in-Inside-2.ensures.value ∙ c.part-upper.ensures.goes ∙ ap (λ (x : Tree g.row.K.Denot g.row.D.Denot). page_with_row 1 x (row_drop i (row_of_page x))) page in
-    let left = c.take_first-first-in-Inside.ensures.taken ∙ ap (λ (x : Tree g.row.K.Denot g.row.D.Denot). first_of (row_of_page x)) goes ∙ first-remade t i ∙ sym (gap-at cmp key (row_of_page t) i parting.1) in
+    let goes : c.deref_mut-in-Inside-2.result.now ≡ page_with_row 1 t (row_drop i (row_of_page t)) = c.deref_mut-in-Inside-2.ensures.value
+    ∙ c.part-upper.ensures.goes ∙ ap (λ (x : Tree g.row.K.Denot g.row.D.Denot). page_with_row 1 x (row_drop i (row_of_page x))) page in
+    let left = c.take_first-first-in-Inside.ensures.taken ∙ ap (λ (x : Tree g.row.K.Denot g.row.D.Denot). first_of (row_of_page x)) goes ∙ first-remade t i
+    ∙ sym (gap-at cmp key (row_of_page t) i parting.1) in
     let bs = ap (λ p. p.items) c.forget-in-Inside.ensures.pages in
     let rs = ap (λ p. p.items) c.forget-in-Inside-2.ensures.pages in
-    parts-inside cmp key whole _ t left _ _ _ _ _ _ _ _ (with_value c.args.page c.part-upper.new.self) (with_value c.part-upper.result c.take_first-first-in-Inside.new.self) i parting.1 parting.0.0 (omega (arith, parting.0.1, page_length-is t))
+    parts-inside cmp key whole _ t left _ _ _ _ _ _ _ _ (with_value c.args.page c.part-upper.new.self)
+    (with_value c.part-upper.result c.take_first-first-in-Inside.new.self) i parting.1 parting.0.0 (omega (arith, parting.0.1, page_length-is t))
     (c.part-upper.ensures.stays ∙ ap (λ (x : Tree g.row.K.Denot g.row.D.Denot). page_with_row 1 x (row_take i (row_of_page x))) page)
     (c.take_first-first-in-Inside.ensures.left ∙ ap (λ (x : Tree g.row.K.Denot g.row.D.Denot). page_with_row 0 x (with_first nothing (row_of_page x))) goes ∙ remade-first t i)
     (bs ∙ c.push-in-Inside.ensures.pages) (omega (arith, c.forget-in-Inside.ensures.stale, ap length bs, c.push-in-Inside.new.self.pages.ok.0))

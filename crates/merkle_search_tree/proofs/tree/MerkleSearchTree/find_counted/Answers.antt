@@ -11,12 +11,15 @@ search-spot-requires g c = record { ascending = subst (NodesAscend g.K.Ord.cmp) 
 
 pub returns-clause-place : goal.returns-clause-place
 returns-clause-place g c =
-    c.search-spot.ensures.found ∙ ap (place g.K.Ord.cmp c.args.key.now) c.nodes.ensures ∙ ap (λ (s : State g.row.K.Denot g.row.H.Denot). place g.K.Ord.cmp c.args.key.now (nodes_of s.root)) c.self.view_is
+    c.search-spot.ensures.found ∙ ap (place g.K.Ord.cmp c.args.key.now) c.nodes.ensures
+    ∙ ap (λ (s : State g.row.K.Denot g.row.H.Denot). place g.K.Ord.cmp c.args.key.now (nodes_of s.root)) c.self.view_is
 
 pub returns-clause-counted : goal.returns-clause-counted
 returns-clause-counted g c =
-    subst (ComparesByHalves g.K.Ord.cmp c.args.key.now c.search-spot.result.compared) (c.nodes.ensures ∙ ap (λ (s : State g.row.K.Denot g.row.H.Denot). nodes_of s.root) c.self.view_is) c.search-spot.ensures.counted
+    subst (ComparesByHalves g.K.Ord.cmp c.args.key.now c.search-spot.result.compared)
+    (c.nodes.ensures ∙ ap (λ (s : State g.row.K.Denot g.row.H.Denot). nodes_of s.root) c.self.view_is) c.search-spot.ensures.counted
 
 pub returns-clause-few : goal.returns-clause-few
 returns-clause-few g c =
-    subst (λ n. (digits : ℕ) → n < 2 ^ digits → c.search-spot.result.compared ≤ digits) (ap length c.nodes.ensures ∙ ap (λ (s : State g.row.K.Denot g.row.H.Denot). length (nodes_of s.root)) c.self.view_is) c.search-spot.ensures.few
+    subst (λ n. (digits : ℕ) → n < 2 ^ digits → c.search-spot.result.compared ≤ digits)
+    (ap length c.nodes.ensures ∙ ap (λ (s : State g.row.K.Denot g.row.H.Denot). length (nodes_of s.root)) c.self.view_is) c.search-spot.ensures.few

@@ -34,7 +34,8 @@ rows-preserved g c =
     record {
       loading = c.in_ok-push_row.ensures.loading;
       held = subst (Holds d g.K.Ord.cmp g.met.K.Ord.total pairs) (sym (item-more rows i r c.rows-test.true c.rows-item.is))
-          (subst (λ ps. Holds d g.K.Ord.cmp g.met.K.Ord.total ps (take i rows ++ r ∷ [])) (sym c.in_ok-push_row.ensures.pushed) (holds-more d g.K.Ord.cmp g.met.K.Ord.total _ (take i rows) own r.0 r.1 c.rows.invariant.held same));
+          (subst (λ ps. Holds d g.K.Ord.cmp g.met.K.Ord.total ps (take i rows ++ r ∷ [])) (sym c.in_ok-push_row.ensures.pushed)
+          (holds-more d g.K.Ord.cmp g.met.K.Ord.total _ (take i rows) own r.0 r.1 c.rows.invariant.held same));
     }
 
 pub returns-clause-map : goal.returns-clause-map

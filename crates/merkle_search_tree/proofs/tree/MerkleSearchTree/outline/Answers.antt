@@ -6,7 +6,7 @@ use Rattle.merkle_tree_theory.specs.Outline.{cached_items, outline_over, outline
 use Rattle.merkle_tree_theory.specs.State.{State}
 use Rattle.merkle_tree_theory.proofs.Inside.{outline_is, hashed_page}
 use Rattle.merkle_tree_theory.proofs.PageOverGap.{over_inside}
-use Rattle.merkle_search_tree.specs.Items.{gap_of, items}
+use Rattle.merkle_search_tree.specs.Items.{lent_gap, items}
 use Rattle.merkle_search_tree.proofs.tree.MerkleSearchTree.outline.Goals as goal
 
 pub returns-clause-items : goal.returns-clause-items
@@ -15,7 +15,7 @@ returns-clause-items g c =
     let h = c.self.invariant in
     let b = g.K.KeyBytes.bytes_of in
     let cmp = g.K.Ord.cmp in
-    let gap = gap_of c.args.gap in
+    let gap = lent_gap c.args.gap in
     let lev = λ (k : g.row.K.Denot). level_of (g.H.Hasher.digest_of s.hasher k) (non_zero_u8_get s.level_base) in
     let hashed : is_some s.root_hash ≡ true = c.is_none.ensures ∙ ap not c.if-is_none.false in
     let page = c.in-Some.page.now in

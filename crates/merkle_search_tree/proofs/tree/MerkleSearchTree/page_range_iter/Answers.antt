@@ -21,7 +21,8 @@ new-requires-clause-ranges g c =
     let h = c.self.invariant in
     let hashed : is_some s.root_hash ≡ true = c.is_none.ensures ∙ ap not c.if-is_none.false in
     let some = eqb-false _ 0 (sym c.is_empty.ensures ∙ c.if-is_empty.false) in
-    hashed_ranges g.K.Ord.cmp (λ k. level_of (g.H.Hasher.digest_of s.hasher k) (non_zero_u8_get s.level_base)) s.page_format g.K.KeyBytes.bytes_of s.root_hash s.root hashed h.root_hash_holds h.caches h.canonical h.ascending
+    hashed_ranges g.K.Ord.cmp (λ k. level_of (g.H.Hasher.digest_of s.hasher k)
+    (non_zero_u8_get s.level_base)) s.page_format g.K.KeyBytes.bytes_of s.root_hash s.root hashed h.root_hash_holds h.caches h.canonical h.ascending
     (λ e. some (ap length (c.nodes.ensures ∙ e)))
 
 pub returns-in_err-new-clause-empty : goal.returns-in_err-new-clause-empty
@@ -38,5 +39,7 @@ returns-clause-ranges g c =
     let cmp = g.K.Ord.cmp in
     let hashed : is_some s.root_hash ≡ true = c.is_none.ensures ∙ ap not c.if-is_none.false in
     c.in_ok-new.ensures ∙ each-cached cmp s.root
-    ∙ hashed_listed cmp g.met.K.Ord.total (λ k. level_of (g.H.Hasher.digest_of s.hasher k) (non_zero_u8_get s.level_base)) s.page_format b s.root_hash s.root hashed h.root_hash_holds h.caches h.canonical h.ascending
+    ∙ hashed_listed cmp g.met.K.Ord.total
+    (λ k. level_of (g.H.Hasher.digest_of s.hasher k)
+    (non_zero_u8_get s.level_base)) s.page_format b s.root_hash s.root hashed h.root_hash_holds h.caches h.canonical h.ascending
     ∙ ap (λ (v : State g.row.K.Denot g.row.H.Denot). ranges_of v.format b v.root) c.self.view_is

@@ -9,5 +9,6 @@ returns-clause-hashed g c = λ hashed.
     omega (
       arith,
       c.missing.ensures,
-      none_of_hashed s.page_format g.K.KeyBytes.bytes_of s.root s.root_hash c.self.invariant.root_hash_holds c.self.invariant.caches (λ e. hashed (sym (ap (λ (v : State g.row.K.Denot g.row.H.Denot). v.root_hash) c.self.view_is) ∙ e)),
+      none_of_hashed s.page_format g.K.KeyBytes.bytes_of s.root s.root_hash c.self.invariant.root_hash_holds c.self.invariant.caches
+          (λ e. hashed (sym (ap (λ (v : State g.row.K.Denot g.row.H.Denot). v.root_hash) c.self.view_is) ∙ e)),
     )

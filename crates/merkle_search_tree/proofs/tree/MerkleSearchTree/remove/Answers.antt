@@ -19,7 +19,8 @@ returns-in_err-entry-clause-succeeds_absent g c =
     let cmp = g.K.Ord.cmp in
     let k = c.args.key.now in
     λ e.
-    let never : false ≡ true = c.in_err-entry.ensures.succeeds (remove-free _ g.met.K.Ord.total _ _ _ c.self.invariant k (ap (λ (v : State g.row.K.Denot g.row.H.Denot). has_key cmp (map_of v) k) c.self.view_is ∙ e)) in
+    let never : false ≡ true = c.in_err-entry.ensures.succeeds
+    (remove-free _ g.met.K.Ord.total _ _ _ c.self.invariant k (ap (λ (v : State g.row.K.Denot g.row.H.Denot). has_key cmp (map_of v) k) c.self.view_is ∙ e)) in
     absurd (cc)
 
 pub returns-in_default-clause-map : goal.returns-in_default-clause-map
@@ -36,7 +37,8 @@ returns-in_default-clause-found g c =
     let s = c.self.inside in
     let cmp = g.K.Ord.cmp in
     let k = c.args.key.now in
-    sym (none_else _ c.in_default.not-Some) ∙ c.in_ok-entry.ensures.found ∙ remove-entry _ g.met.K.Ord.total _ _ _ c.self.invariant k ∙ ap (λ (v : State g.row.K.Denot g.row.H.Denot). entry cmp (map_of v) k) c.self.view_is
+    sym (none_else _ c.in_default.not-Some) ∙ c.in_ok-entry.ensures.found ∙ remove-entry _ g.met.K.Ord.total _ _ _ c.self.invariant k
+    ∙ ap (λ (v : State g.row.K.Denot g.row.H.Denot). entry cmp (map_of v) k) c.self.view_is
 
 pub returns-in_default-clause-few_more : goal.returns-in_default-clause-few_more
 returns-in_default-clause-few_more g c =
@@ -61,7 +63,8 @@ invariant_of-self-2 g c =
     let k = c.args.key.now in
     let view : State g.row.K.Denot g.row.H.Denot = record { hasher = s.hasher; base = non_zero_u8_get s.level_base; format = s.page_format; root = s.root; root_hash = s.root_hash } in
     let done : c.remove_from_root.new.self ≡ root_del cmp k s.root = at_some _ _ _ c.in-Some.entry c.in-Some.is c.in_ok-entry.ensures.done in
-    subst (λ (t : Tree g.row.K.Denot (List ℕ)). IsSound cmp g.H.Hasher.digest_of g.K.KeyBytes.bytes_of (record view { root = t; root_hash = None })) (sym done) (remove-sound _ g.met.K.Ord.total _ _ _ c.self.invariant k)
+    subst (λ (t : Tree g.row.K.Denot (List ℕ)). IsSound cmp g.H.Hasher.digest_of g.K.KeyBytes.bytes_of (record view { root = t; root_hash = None })) (sym done)
+    (remove-sound _ g.met.K.Ord.total _ _ _ c.self.invariant k)
 
 pub returns-clause-map : goal.returns-clause-map
 returns-clause-map g c =
@@ -94,7 +97,8 @@ returns-clause-few g c =
     let k = c.args.key.now in
     let done : c.remove_from_root.new.self ≡ root_del cmp k s.root = at_some _ _ _ c.in-Some.entry c.in-Some.is c.in_ok-entry.ensures.done in
     subst (λ (v : State g.row.K.Denot g.row.H.Denot). v.root_hash ≢ None → uncached_pages c.remove_from_root.new.self ≤ level v.root + 1) c.self.view_is
-    (λ ne. subst (λ (t : Tree g.row.K.Denot (List ℕ)). uncached_pages t ≤ level s.root + 1) (sym done) (omega (arith, remove-few _ g.met.K.Ord.total _ _ _ c.self.invariant k, hashed-lacks _ g.met.K.Ord.total _ _ _ c.self.invariant k ne)))
+    (λ ne. subst (λ (t : Tree g.row.K.Denot (List ℕ)). uncached_pages t ≤ level s.root + 1) (sym done)
+    (omega (arith, remove-few _ g.met.K.Ord.total _ _ _ c.self.invariant k, hashed-lacks _ g.met.K.Ord.total _ _ _ c.self.invariant k ne)))
 
 pub remove_from_root-requires : goal.remove_from_root-requires
 remove_from_root-requires g c = record { ascending = c.self.invariant.ascending }

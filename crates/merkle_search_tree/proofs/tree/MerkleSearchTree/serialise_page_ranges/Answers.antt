@@ -30,5 +30,7 @@ returns-clause-ranges g c =
     let cmp = g.K.Ord.cmp in
     let hashed : is_some s.root_hash ≡ true = c.is_none.ensures ∙ ap not c.if-is_none.false in
     c.in_ok-list_ranges.ensures ∙ ap (λ xs. entries xs ++ cached_ranges cmp s.root) c.new-list.ensures.items
-    ∙ hashed_listed cmp g.met.K.Ord.total (λ k. level_of (g.H.Hasher.digest_of s.hasher k) (non_zero_u8_get s.level_base)) s.page_format b s.root_hash s.root hashed h.root_hash_holds h.caches h.canonical h.ascending
+    ∙ hashed_listed cmp g.met.K.Ord.total
+    (λ k. level_of (g.H.Hasher.digest_of s.hasher k)
+    (non_zero_u8_get s.level_base)) s.page_format b s.root_hash s.root hashed h.root_hash_holds h.caches h.canonical h.ascending
     ∙ ap (λ (v : State g.row.K.Denot g.row.H.Denot). ranges_of v.format b v.root) c.self.view_is

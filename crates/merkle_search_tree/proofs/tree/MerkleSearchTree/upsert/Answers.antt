@@ -50,17 +50,23 @@ returns-clause-few_more g c =
     let s = c.self.inside in
     let lev = c.level-key_level.ensures ∙ ap (λ h. level_of h (non_zero_u8_get s.level_base)) c.hash-2.ensures in
     let few = upsert-few _ g.met.K.Ord.total _ g.met.K.Ord.matches_eq _ g.met.H.Hasher-1.respects_eq _ _ c.self.invariant _ c.args.key c.new-digest.result (sym lev) in
-    subst (λ (v : State g.row.K.Denot g.row.H.Denot). uncached_pages c.set.new.self ≤ uncached_pages v.root + (level c.set.new.self + level_of (g.H.Hasher-1.digest_of v.hasher c.args.key) v.base + 1)) c.self.view_is
-    (subst (λ (t : Tree g.row.K.Denot (List ℕ)). uncached_pages t ≤ uncached_pages s.root + (level t + level_of (g.H.Hasher-1.digest_of s.hasher c.args.key) (non_zero_u8_get s.level_base) + 1)) (sym c.in_ok-set.ensures.done)
-    (subst (λ (m : ℕ). uncached_pages (tree_set g.K.Ord.cmp c.level-key_level.result c.args.key c.new-digest.result s.root) ≤ uncached_pages s.root + (level (tree_set g.K.Ord.cmp c.level-key_level.result c.args.key c.new-digest.result s.root) + m + 1)) lev few))
+    subst (λ (v : State g.row.K.Denot g.row.H.Denot). uncached_pages c.set.new.self ≤ uncached_pages v.root +
+    (level c.set.new.self + level_of (g.H.Hasher-1.digest_of v.hasher c.args.key) v.base + 1)) c.self.view_is
+    (subst (λ (t : Tree g.row.K.Denot (List ℕ)). uncached_pages t ≤ uncached_pages s.root +
+    (level t + level_of (g.H.Hasher-1.digest_of s.hasher c.args.key) (non_zero_u8_get s.level_base) + 1)) (sym c.in_ok-set.ensures.done)
+    (subst (λ (m : ℕ). uncached_pages (tree_set g.K.Ord.cmp c.level-key_level.result c.args.key c.new-digest.result s.root) ≤ uncached_pages s.root +
+    (level (tree_set g.K.Ord.cmp c.level-key_level.result c.args.key c.new-digest.result s.root) + m + 1)) lev few))
 
 pub returns-clause-few : goal.returns-clause-few
 returns-clause-few g c =
     let s = c.self.inside in
     let lev = c.level-key_level.ensures ∙ ap (λ h. level_of h (non_zero_u8_get s.level_base)) c.hash-2.ensures in
     let few = upsert-few _ g.met.K.Ord.total _ g.met.K.Ord.matches_eq _ g.met.H.Hasher-1.respects_eq _ _ c.self.invariant _ c.args.key c.new-digest.result (sym lev) in
-    let few_more = subst (λ (v : State g.row.K.Denot g.row.H.Denot). uncached_pages c.set.new.self ≤ uncached_pages v.root + (level c.set.new.self + level_of (g.H.Hasher-1.digest_of v.hasher c.args.key) v.base + 1)) c.self.view_is
-    (subst (λ (t : Tree g.row.K.Denot (List ℕ)). uncached_pages t ≤ uncached_pages s.root + (level t + level_of (g.H.Hasher-1.digest_of s.hasher c.args.key) (non_zero_u8_get s.level_base) + 1)) (sym c.in_ok-set.ensures.done)
-    (subst (λ (m : ℕ). uncached_pages (tree_set g.K.Ord.cmp c.level-key_level.result c.args.key c.new-digest.result s.root) ≤ uncached_pages s.root + (level (tree_set g.K.Ord.cmp c.level-key_level.result c.args.key c.new-digest.result s.root) + m + 1)) lev few)) in
+    let few_more = subst (λ (v : State g.row.K.Denot g.row.H.Denot). uncached_pages c.set.new.self ≤ uncached_pages v.root +
+    (level c.set.new.self + level_of (g.H.Hasher-1.digest_of v.hasher c.args.key) v.base + 1)) c.self.view_is
+    (subst (λ (t : Tree g.row.K.Denot (List ℕ)). uncached_pages t ≤ uncached_pages s.root +
+    (level t + level_of (g.H.Hasher-1.digest_of s.hasher c.args.key) (non_zero_u8_get s.level_base) + 1)) (sym c.in_ok-set.ensures.done)
+    (subst (λ (m : ℕ). uncached_pages (tree_set g.K.Ord.cmp c.level-key_level.result c.args.key c.new-digest.result s.root) ≤ uncached_pages s.root +
+    (level (tree_set g.K.Ord.cmp c.level-key_level.result c.args.key c.new-digest.result s.root) + m + 1)) lev few)) in
     let sound = subst (IsSound g.K.Ord.cmp g.H.Hasher-1.digest_of g.K.KeyBytes.bytes_of) c.self.view_is c.self.invariant in
     λ ne. omega (arith, few_more, none_of_hashed c.args.self.now.format g.K.KeyBytes.bytes_of c.args.self.now.root c.args.self.now.root_hash sound.root_hash_holds sound.caches ne)

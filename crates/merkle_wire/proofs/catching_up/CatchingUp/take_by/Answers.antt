@@ -3,7 +3,7 @@ use Rattle.std.proofs.lemmas.Result.{err_from_is_err_and}
 use Rattle.merkle_replica.proofs.SideLaws.{laws_of}
 use Rattle.merkle_replica.specs.Laws.{Laws}
 use Rattle.merkle_wire.specs.ItsRows.{ForRowsOf, side_of}
-use Rattle.merkle_wire.specs.Underway.{HasTaken, Underway}
+use Rattle.merkle_wire.specs.Underway.{HasTakenReply, Underway}
 use Rattle.merkle_wire.proofs.AskedFor.{only_asked}
 use Rattle.merkle_wire.proofs.NextMessages.{is_next, is_stopped, refused_stops}
 use Rattle.merkle_wire.proofs.Takings.{has_taken}
@@ -18,7 +18,7 @@ laws_at g = laws_of g.K.Ord.cmp g.K.KeyBytes.bytes_of g.H.Hasher-1.digest_of g.V
 
 -- the reply was taken, whatever rows the tree has the digests of
 taken : (g : Over) (c : In-Ok g) → ForRowsOf (laws_at g) (g.T.KeptTree.kept c.args.tree.now).digests
-    (λ local. HasTaken (laws_at g) g.row.N g.K.Encode.encoding g.V.Encode.encoding local c.self.inside.asked c.args.reply.now c.self.inside.work c.take_reply.new.work c.in_ok-came.again)
+    (λ local. HasTakenReply (laws_at g) g.row.N g.K.Encode.encoding g.V.Encode.encoding local c.self.inside.asked c.args.reply.now c.self.inside.work c.take_reply.new.work c.in_ok-came.again)
 taken g c rows of =
     has_taken (laws_at g) g.row.N g.K.Encode.encoding g.V.Encode.encoding (side_of (g.T.KeptTree.kept c.args.tree.now).digests rows) c.self.inside.asked c.args.reply.now
     c.in_ok-came.came c.in_ok-came.again c.self.inside.work c.take_reply.new.work

@@ -1,6 +1,6 @@
 use Rattle.std.proofs.Common.{Some, subst}
 use Rattle.merkle_replica.specs.Descent.{HasPage}
-use Rattle.merkle_search_tree.specs.Items.{gap_of}
+use Rattle.merkle_search_tree.specs.Items.{lent_gap}
 use Rattle.merkle_wire.specs.ItsRows.{ForRowsOf}
 use Rattle.merkle_wire.specs.Taking.{HasPageAt}
 use Rattle.merkle_wire.proofs.HashedDigests.{hashed_digests}
@@ -14,7 +14,7 @@ returns-clause-there g c = λ yes.
 pub returns-clause-lacked : goal.returns-clause-lacked
 returns-clause-lacked g c = λ no.
     let same = hashed_digests g.K.KeyBytes.bytes_of c.args.self.now.tree c.hash.new.self.tree c.hash.ensures.tree in
-    subst (λ own. ForRowsOf g.H.RowHasher.laws own (λ local. ¬ HasPageAt g.H.RowHasher.laws local (gap_of c.args.gap.now) c.args.digest.now)) same
+    subst (λ own. ForRowsOf g.H.RowHasher.laws own (λ local. ¬ HasPageAt g.H.RowHasher.laws local (lent_gap c.args.gap.now) c.args.digest.now)) same
     ((rw c.tree.ensures.tree at c.is_page_of.ensures.lacked) no)
 
 pub returns-clause-kept : goal.returns-clause-kept

@@ -1,10 +1,10 @@
 use Rattle.std.proofs.Common.{◌≡◌, ◌++◌, map}
 use Rattle.std.specs.List.{flat_map}
 use Rattle.merkle_tree_theory.specs.Page.{pair_of}
-use Rattle.mst_c.specs.Trees.{by_bytes, rows_of}
-use Rattle.mst_c.specs.Wire.{digest_bytes, digests_bytes}
+use Rattle.c_values.specs.Keys.{by_key, pairs_of}
+use Rattle.mst_c.specs.Wire.{digest_bytes, digest_list}
 use Rattle.mst_c.proofs.byte_tree.ByteTree.digests.Given as goal
 
 -- what was written, and the nodes that are left as bytes, are the list
 abbrev pub invariant-nodes : goal.invariant-nodes
-invariant-nodes l = l.out.items ++ flat_map digest_bytes (map by_bytes (map pair_of l.node-iterator)) ≡ digests_bytes (rows_of l.self.tree)
+invariant-nodes l = l.out.items ++ flat_map digest_bytes (map by_key (map pair_of l.node-iterator)) ≡ digest_list (pairs_of l.self.tree)

@@ -2,7 +2,7 @@ use Rattle.std.proofs.Common.{rules, ◌<◌, ◌^◌, map, length, ap, subst, �
 use Rattle.key_order.specs.Map.{IsMap}
 use Rattle.merkle_digest.specs.SipHash.{siphash128}
 use Rattle.merkle_search_tree.specs.Loading.{digests}
-use Rattle.mst_c.specs.Trees.{bytes_cmp, by_bytes}
+use Rattle.c_values.specs.Keys.{bytes_cmp, by_key}
 use Rattle.mst_c.proofs.Loads.{on_ok, pairs_ascend, rows_ascend}
 use Rattle.mst_c.proofs.Ranges.{one_list_of_rows}
 use Rattle.mst_c.proofs.byte_tree.ByteTree.load.Goals as goal
@@ -14,7 +14,7 @@ returns-clause-done c =
     on_ok c.load_pairs.result (λ has. (
       spelled.0,
       (spelled.1, rows_ascend (siphash128 old.hasher.key) pairs spelled.0 spelled.2 has.1),
-      ap (map by_bytes) has.0 ∙ spelled.2 ∙ ap (λ hasher. digests (siphash128 hasher.key) spelled.0) old.same_hasher,
+      ap (map by_key) has.0 ∙ spelled.2 ∙ ap (λ hasher. digests (siphash128 hasher.key) spelled.0) old.same_hasher,
       has.2,
     )) c.load_pairs.ensures.done
 

@@ -3,7 +3,7 @@ use Rattle.std.proofs.IntoIterSteps.{All-taken}
 use Rattle.std.proofs.lemmas.List.{map-id}
 use Rattle.key_order.specs.Map.{IsMap}
 use Rattle.merkle_tree_theory.specs.State.{SameSettings}
-use Rattle.mst_c.specs.Trees.{key_cmp}
+use Rattle.c_values.specs.Keys.{key_cmp}
 use Rattle.mst_c.proofs.Loads.{no_ascent}
 use Rattle.mst_c.proofs.byte_tree.ByteTree.load_pairs.Goals as goal
 

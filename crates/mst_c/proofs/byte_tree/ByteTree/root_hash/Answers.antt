@@ -1,11 +1,11 @@
 use Rattle.std.proofs.Common.{ap, map}
-use Rattle.mst_c.specs.Trees.{by_bytes}
+use Rattle.c_values.specs.Keys.{by_key}
 use Rattle.mst_c.proofs.byte_tree.ByteTree.root_hash.Goals as goal
 
 pub returns-clause-kept : goal.returns-clause-kept
 returns-clause-kept c =
     let same = c.root_hash_counted-digest.ensures.tree in
     record {
-      rows = ap (map by_bytes) c.root_hash_counted-digest.ensures.map;
+      rows = ap (map by_key) c.root_hash_counted-digest.ensures.map;
       settings = (ap (λ s. s.hasher) same, ap (λ s. s.base) same, ap (λ s. s.format) same);
     }

@@ -1,7 +1,7 @@
 use Rattle.std.proofs.Common.{rules, arith, ◌≡◌, ◌<◌, ◌^◌, ◌++◌, ◌∷◌, [], List, ℕ, length, subst, sym}
 use Rattle.std.proofs.lemmas.List.{length-append}
 use Rattle.mst_c.specs.Lists.{AreSet}
-use Rattle.mst_c.specs.Wire.{row_bytes}
+use Rattle.c_values.specs.Lists.{sized_row}
 use Rattle.mst_c.proofs.Lists.{read_more}
 use Rattle.mst_c.proofs.Sets.{front_set, one_set}
 use Rattle.mst_c.proofs.byte_tree.ByteTree.set_rows.Goals as goal
@@ -24,7 +24,7 @@ rows-preserved c =
     let kept = c.rows.invariant in
     let row : List ℕ × List ℕ = (c.in-Some.key.now, c.in-Some.value.now) in (
       kept.0 ++ row ∷ [],
-      read_more row_bytes kept.0 row c.args.body.now c.rows.rest.now c.in-Some.behind.now kept.1 c.in-Some.ensures.pair,
+      read_more sized_row kept.0 row c.args.body.now c.rows.rest.now c.in-Some.behind.now kept.1 c.in-Some.ensures.pair,
       omega (arith, kept.2, length-append kept.0 (row ∷ [])),
       one_set kept.0 row c.args.self.now.tree c.rows.self.tree c.upsert.new.self.tree kept.3 c.in-Ok.ensures.done,
     )

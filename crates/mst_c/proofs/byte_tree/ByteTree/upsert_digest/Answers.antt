@@ -1,7 +1,8 @@
 use Rattle.std.proofs.Common.{◌≡◌, OnOk, ap, subst, ◌∙◌, map}
 use Rattle.key_order.specs.Map.{set}
 use Rattle.merkle_tree_theory.specs.State.{map_of}
-use Rattle.mst_c.specs.Trees.{SetDropsFew, bytes_cmp, by_bytes, key_cmp, rows_of}
+use Rattle.mst_c.specs.Trees.{SetDropsFew}
+use Rattle.c_values.specs.Keys.{bytes_cmp, by_key, key_cmp, pairs_of}
 use Rattle.mst_c.proofs.Bytes.{rows_set}
 use Rattle.mst_c.proofs.byte_tree.ByteTree.upsert_digest.Goals.{in-Ok, in-Err}
 use Rattle.mst_c.proofs.byte_tree.ByteTree.upsert_digest.Goals as goal
@@ -15,7 +16,7 @@ returns-clause-done c =
           let is_set = subst (λ r. OnOk r (map_of c.upsert.new.self ≡ set key_cmp (map_of old) key digest)) w.in-Ok.is c.upsert.ensures.set in
           rw w.result-is
           (record {
-            rows = ap (map by_bytes) is_set ∙ rows_set (map_of old) key digest ∙ ap (λ k. set bytes_cmp (rows_of old) k digest) same;
+            rows = ap (map by_key) is_set ∙ rows_set (map_of old) key digest ∙ ap (λ k. set bytes_cmp (pairs_of old) k digest) same;
             settings = c.upsert.ensures.settings;
           })
       | in-Err w ↦ rw w.result-is tt

@@ -1,7 +1,7 @@
 use Rattle.std.proofs.Common.{subst, ap, ◌∙◌}
 use Rattle.arrayvec.specs.ArrayString.{ArrayString}
 use Rattle.std.specs.Io.KnownBytes.{Appends}
-use Rattle.mst_pair.specs.Devices.{Writes, WritesPart}
+use Rattle.mst_pair.specs.Devices.{WritesBytes, WritesPart}
 use Rattle.mst_pair.proofs.Devices.{writes_less, passes_err, passes_written}
 use Rattle.mst_pair.proofs.pending.Pending.write.Goals as goal
 
@@ -15,4 +15,5 @@ returns-in_err-flush-in-Err-clause-bytes g c =
 pub returns-in_ok-flush-in-Err-clause-bytes : goal.returns-in_ok-flush-in-Err-clause-bytes
 returns-in_ok-flush-in-Err-clause-bytes g c =
     let same = ap (λ (t : ArrayString). t.bytes) c.in-Err.ensures.err ∙ c.self.view_is in
-    passes_written _ _ _ _ _ _ _ (subst (Appends _ _) same c.in_ok-flush-in-Err.ensures.bytes) c.in_ok-flush-in-Err.ensures.empty (subst (Writes _ _ _) c.as_bytes.ensures.value c.write_all.ensures.bytes)
+    passes_written _ _ _ _ _ _ _ (subst (Appends _ _) same c.in_ok-flush-in-Err.ensures.bytes) c.in_ok-flush-in-Err.ensures.empty
+    (subst (WritesBytes _ _ _) c.as_bytes.ensures.value c.write_all.ensures.bytes)

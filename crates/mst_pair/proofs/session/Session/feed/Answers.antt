@@ -2,7 +2,7 @@ use Rattle.std.proofs.Common.{rules, ◌≡◌, ◌<◌, length, ℕ, List, [], 
 use Rattle.std.proofs.lemmas.List.{take_more}
 use Rattle.std.proofs.lemmas.Bool.Decides.{nat_tests}
 use Rattle.std.proofs.KnownBytes.{Appends-trans}
-use Rattle.mst_pair.specs.Engine.{Step}
+use Rattle.mst_pair.specs.Engine.{RepliesTo}
 use Rattle.mst_pair.specs.Lines.{newline, lines_of}
 use Rattle.mst_pair.specs.Run.{RepliesCut}
 use Rattle.mst_pair.proofs.Devices.{appends_or_hides_after}
@@ -27,7 +27,9 @@ returns-in_err-answer-clause-bytes g c = λ input written r.
     let i = c.taking.byte-index in
     let bytes = c.args.bytes.now in
     let kept = c.taking.self.line in
-    let here : Step c.taking.self.engine kept (front ++ rest) c.answer.new.self = subst (λ (k : List ℕ). Step c.taking.self.engine k (front ++ rest) c.answer.new.self) c.as_slice.ensures (subst (λ (t : List ℕ). Step c.taking.self.engine c.as_slice.result.now t c.answer.new.self) split step) in
+    let here : RepliesTo c.taking.self.engine kept (front ++ rest) c.answer.new.self =
+    subst (λ (k : List ℕ). RepliesTo c.taking.self.engine k (front ++ rest) c.answer.new.self) c.as_slice.ensures
+    (subst (λ (t : List ℕ). RepliesTo c.taking.self.engine c.as_slice.result.now t c.answer.new.self) split step) in
     let cut = cut_line (input ++ take i bytes) (written ++ more) c.taking.self.engine kept front rest c.answer.new.self (drop (i + 1) bytes) at here in
     goes_on_err _ _ _ _ _ _ _ (more ++ front) c.from_residual.ensures.0 (appends_or_hides_after _ _ _ more front taken hides)
     (rw (← append_assoc written more front) (subst (λ (all : List ℕ). RepliesCut (lines_of all) ((written ++ more) ++ front)) (around input bytes i c.taking-test.true c.if-byte-eq10.true) cut))
@@ -43,15 +45,19 @@ taking-preserved g c =
         reached = λ input written r.
             let (more, taken, at) = c.taking.invariant.reached input written r in
             let (reply, step, wrote) = w.in_ok-answer.ensures.bytes in
-            let here : Step c.taking.self.engine kept reply w.answer.new.self = subst (λ (k : List ℕ). Step c.taking.self.engine k reply w.answer.new.self) w.as_slice.ensures step in
+            let here : RepliesTo c.taking.self.engine kept reply w.answer.new.self = subst (λ (k : List ℕ). RepliesTo c.taking.self.engine k reply w.answer.new.self) w.as_slice.ensures step in
             let next = reached_line (input ++ take i bytes) (written ++ more) c.taking.self.engine kept reply w.answer.new.self at here in
             (more ++ reply, Appends-trans _ _ _ _ _ taken wrote, rw (w.clear.ensures, ← one_more input bytes i newline c.taking-test.true w.if-byte-eq10.true, ← append_assoc written more reply) next);
         works = w.in_ok-answer.ensures.failed ∙ c.taking.invariant.works;
       })
       | else-byte-eq10 w ↦ rw (w.self-is, w.writer-is) (record {
         reached = λ input written r.
-            let (more, taken, at) = c.taking.invariant.reached input written r in
-            (more, taken, rw (w.push.ensures, ← one_more input bytes i _ c.taking-test.true refl) (reached_byte (input ++ take i bytes) (written ++ more) c.taking.self.engine kept (get_or bytes i 0) (search (rules, nat_tests)) at));
+            let (more, taken, at) = c.taking.invariant.reached input written r in (
+              more,
+              taken,
+              rw (w.push.ensures, ← one_more input bytes i _ c.taking-test.true refl)
+                  (reached_byte (input ++ take i bytes) (written ++ more) c.taking.self.engine kept (get_or bytes i 0) (search (rules, nat_tests)) at),
+            );
         works = c.taking.invariant.works;
       })
     ]

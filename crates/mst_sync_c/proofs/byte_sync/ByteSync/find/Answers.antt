@@ -2,8 +2,7 @@ use Rattle.std.proofs.Common.{Some, sym, ap, ◌∙◌}
 use Rattle.std.specs.Option.{option_map}
 use Rattle.key_order.specs.Map.{get}
 use Rattle.merkle_tree_theory.specs.State.{map_of}
-use Rattle.c_rows.specs.Values.{bytes_cmp}
-use Rattle.mst_sync_c.specs.Pairs.{pairs_of}
+use Rattle.c_values.specs.Keys.{bytes_cmp, pairs_of}
 use Rattle.mst_sync_c.proofs.Pairs.{pairs_get}
 use Rattle.mst_sync_c.proofs.byte_sync.ByteSync.find.Goals as goal
 

@@ -1,8 +1,7 @@
 use Rattle.std.proofs.Common.{refl, sym, ap, ◌∙◌, map}
-use Rattle.c_rows.specs.Values.{bytes_cmp}
+use Rattle.c_values.specs.Keys.{bytes_cmp, by_key, pairs_of}
 use Rattle.key_order.specs.Map.{del, has_key}
 use Rattle.merkle_tree_theory.specs.State.{map_of}
-use Rattle.mst_sync_c.specs.Pairs.{by_key, pairs_of}
 use Rattle.mst_sync_c.proofs.Pairs.{pairs_del, absent, present}
 use Rattle.mst_sync_c.proofs.byte_sync.ByteSync.remove.Goals as goal
 

@@ -1,9 +1,8 @@
 use Rattle.std.proofs.Common.{ap, map, refl, ◌∙◌}
-use Rattle.c_rows.specs.Values.{bytes_cmp}
+use Rattle.c_values.specs.Keys.{bytes_cmp, by_key, pairs_of}
 use Rattle.key_order.specs.Map.{set}
 use Rattle.merkle_digest.specs.SipHash.{siphash128}
 use Rattle.merkle_tree_theory.specs.State.{map_of}
-use Rattle.mst_sync_c.specs.Pairs.{by_key, pairs_of}
 use Rattle.mst_sync_c.proofs.Pairs.{pairs_set}
 use Rattle.mst_sync_c.proofs.byte_sync.ByteSync.set.Goals as goal
 

@@ -21,7 +21,11 @@ returns-else-len-eq0 c =
       };
       asks = refl;
       some = λ none. c.if-len-eq0.false (has_len ∙ none);
-      same = record { map = ap (λ k. k.digests.map) c.take_by.ensures.kept; settings = (ap (λ k. k.digests.hasher) c.take_by.ensures.kept, ap (λ k. k.digests.base) c.take_by.ensures.kept, ap (λ k. k.digests.format) c.take_by.ensures.kept) };
+      same = record {
+        map = ap (λ k. k.digests.map) c.take_by.ensures.kept;
+        settings =
+            (ap (λ k. k.digests.hasher) c.take_by.ensures.kept, ap (λ k. k.digests.base) c.take_by.ensures.kept, ap (λ k. k.digests.format) c.take_by.ensures.kept);
+      };
       list = refl;
     }
 
@@ -30,7 +34,14 @@ returns-in-Ok-Came c =
     let before = c.in_ok-session.session in let old = c.args.self.now in
     kept_taken old (record { tree = c.take_by.new.tree; session = c.take.new.self; about = old.about; message = c.new.result; list = old.list }) c.keep.new.self
     (λ none. subst IsPresent (c.in_ok-session.ensures.value ∙ none) tt)
-    (record { map = ap (λ k. k.digests.map) c.take_by.ensures.kept; settings = (ap (λ k. k.digests.hasher) c.take_by.ensures.kept, ap (λ k. k.digests.base) c.take_by.ensures.kept, ap (λ k. k.digests.format) c.take_by.ensures.kept) }) refl (c.take.ensures.after, c.new.ensures.items) c.args.reply.now c.in-Ok-Came.rows c.keep.result
+    (record {
+      map = ap (λ k. k.digests.map) c.take_by.ensures.kept;
+      settings = (
+        ap (λ k. k.digests.hasher) c.take_by.ensures.kept,
+        ap (λ k. k.digests.base) c.take_by.ensures.kept,
+        ap (λ k. k.digests.format) c.take_by.ensures.kept,
+      );
+    }) refl (c.take.ensures.after, c.new.ensures.items) c.args.reply.now c.in-Ok-Came.rows c.keep.result
     (record {
       before = before;
       under_way = sym c.in_ok-session.ensures.value;

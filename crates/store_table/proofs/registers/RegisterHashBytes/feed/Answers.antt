@@ -2,7 +2,7 @@ use Rattle.std.proofs.Common.{ℕ, List, [], ◌∷◌, ◌++◌, subst, subst�
 use Rattle.std.specs.Int.{w64, to_le_bytes}
 use Rattle.merkle_digest.specs.Sip24.{Holds}
 use Rattle.store_table.specs.RegisterBytes.{value_bytes}
-use Rattle.store_table.specs.Values.{bytes_of, mark_of}
+use Rattle.store_table.specs.Values.{bytes_of_value, kind_mark}
 use Rattle.store_table.specs.declared.value.Value.{Value}
 use Rattle.store_table.proofs.Appended.{four, five}
 use Rattle.store_table.proofs.registers.RegisterHashBytes.feed.Goals as goal
@@ -16,7 +16,7 @@ returns-in-Some c = λ key written h.
     let three = c.feed-3.ensures key ((written ++ t) ++ l) (c.feed-2.ensures key (written ++ t) (c.feed.ensures key written h)) in
     let value = c.in-Some.value in
     let all = rw (c.mark.ensures, c.as_bytes-in-Some.ensures) at (c.write.ensures key _ (c.feed-in-Some.ensures key _ three)) in
-    let flat = subst (Holds c.write.new.self key) (five written t l w (mark_of value ∷ []) (bytes_of value)) all in
+    let flat = subst (Holds c.write.new.self key) (five written t l w (kind_mark value ∷ []) (bytes_of_value value)) all in
     subst₂ (λ (n : List ℕ) (v : Option Value). Holds c.write.new.self key (written ++ (t ++ (to_le_bytes w64 (length n) ++ (w ++ value_bytes v))))) c.as_bytes.ensures.value (sym c.in-Some.is) flat
 
 pub returns-in-None : goal.returns-in-None
@@ -27,4 +27,5 @@ returns-in-None c = λ key written h.
     let three = c.feed-3.ensures key ((written ++ t) ++ l) (c.feed-2.ensures key (written ++ t) (c.feed.ensures key written h)) in
     let all = c.feed-in-None.ensures key _ three in
     let flat = subst (Holds c.feed-in-None.new.sip key) (four written t l w (0 ∷ [])) all in
-    subst₂ (λ (n : List ℕ) (v : Option Value). Holds c.feed-in-None.new.sip key (written ++ (t ++ (to_le_bytes w64 (length n) ++ (w ++ value_bytes v))))) c.as_bytes.ensures.value (sym c.in-None.is) flat
+    subst₂ (λ (n : List ℕ) (v : Option Value). Holds c.feed-in-None.new.sip key
+    (written ++ (t ++ (to_le_bytes w64 (length n) ++ (w ++ value_bytes v))))) c.as_bytes.ensures.value (sym c.in-None.is) flat

@@ -21,5 +21,6 @@ returns-then-mark-clause-refused c =
 
 pub returns-then-mark-clause-malformed : goal.returns-then-mark-clause-malformed
 returns-then-mark-clause-malformed c = λ malformed said rest formed e.
-    other_kind c.args.reader.now.left.now c.in_ok-mark.field-0 c.array.new.self.left.now c.in_ok-bytes.bytes.now c.byte_string.new.self.left.now c.of-value.result c.in_ok-mark.ensures.len c.in_ok-mark.ensures.read
+    other_kind c.args.reader.now.left.now c.in_ok-mark.field-0 c.array.new.self.left.now c.in_ok-bytes.bytes.now c.byte_string.new.self.left.now
+    c.of-value.result c.in_ok-mark.ensures.len c.in_ok-mark.ensures.read
     c.in_ok-bytes.ensures.read c.if-mark-eq0.false (rw c.in_ok-from_slice.ensures.items at c.of-value.ensures) (λ same. c.if-mark.true (c.mark.ensures ∙ same)) said.value rest formed e

@@ -1,5 +1,0 @@
-use Rattle.std.proofs.Common.{arith}
-use Rattle.sample_trees.proofs.trees.copy.Goals as goal
-
-pub try_clone-requires : goal.try_clone-requires
-try_clone-requires c = (omega arith, λ a b h k. cc)

@@ -1,5 +1,0 @@
-use Rattle.std.proofs.Common.{arith}
-use Rattle.theorem_tests.proofs.random_runs.run_both.Goals as goal
-
-pub converge-requires : goal.converge-requires
-converge-requires c = (omega arith, λ x y h. h)
