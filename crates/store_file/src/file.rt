@@ -83,7 +83,7 @@ fn named<D: Disk>(error: OpenError, before: Tally, left: &Unopened<D>) -> OpenFa
 
 /// Opens the file of a store, and reads of it the header, the list of free pages and the list of tables.
 ///
-/// ```rust crates/store_file/src/tests.rt
+/// ```rust crates/store_file_tests/src/files.rt
 /// let mut second = open(alloc, files)?;
 /// let found = is_filled(rt, &mut second, &mut row);
 /// close(second)?;
@@ -117,7 +117,7 @@ pub fn open<D: Disk + Drop>(alloc: Global, files: Files<D>) -> Result<FileStore<
 /// Opens the file of a store as [`open`] does, and recovers it once where that one does twice, as it doesn't read whose tables these are: a database
 /// of other tables may be opened, too.
 ///
-/// ```rust crates/store_file/src/tests.rt
+/// ```rust crates/store_file_tests/src/files.rt
 /// let mut second = open_trusted(alloc, files)?;
 /// let found = is_filled(rt, &mut second, &mut row);
 /// ```
@@ -174,7 +174,7 @@ pub fn open_whole<D: Disk + Drop>(alloc: Global, files: Files<D>) -> Result<File
 
 /// Makes an empty store in files that hold nothing.
 ///
-/// ```rust crates/store_file/src/tests.rt
+/// ```rust crates/store_file_tests/src/files.rt
 /// let mut first = create(alloc, blank(alloc))?;
 /// let written = fill(rt, &mut first, &mut row);
 /// let files = close_files(first)?;
@@ -208,7 +208,7 @@ const SIZES: [usize; 8] = [512, 1024, 2048, 4096, 8192, 16_384, 32_768, 65_536];
 /// Whether the database has the tables of a store, as each has that was opened or made here. If so, `open` takes the files as a crash leaves them
 /// at this moment, also one in the middle of a command: they hold a store, with the trees of which the clauses on crashes speak.
 ///
-/// ```rust crates/store_file/src/tests.rt
+/// ```rust crates/store_file_tests/src/files.rt
 /// let tables = is_store(&store);
 /// ```
 ///
@@ -232,8 +232,12 @@ pub fn is_store<D: Disk>(store: &FileStore<D>) -> Result<bool, AllocError>
 }
 
 /// Takes back what isn't committed, copies the log into the database file, and gives the files back, with whether they have the tables of a
-/// store.
-pub(crate) fn close_any<D: Disk + Drop>(store: FileStore<D>) -> Result<(Files<D>, bool), StoreError>
+/// store: as [`close_files`], of a database that may be another's.
+///
+/// # Errors
+///
+/// As those of [`close_files`], but for that of a database that isn't a store.
+pub fn close_any<D: Disk + Drop>(store: FileStore<D>) -> Result<(Files<D>, bool), StoreError>
     ensures usable { IfOk result (λ closed. IsTrue (D.Disk.is_usable closed.0.log) × IsTrue (D.Disk.is_usable closed.0.db)) }
     ensures copied { IfOk result (λ closed. IsTrue closed.1 → KeepStore D.Disk (view store).committed closed.0) }
     ensures honest { IfOk result (λ closed. AreClean D.Disk closed.0.log closed.0.db → IsTrue (view store).is_clean × IsTrue (view store).is_open) }
@@ -284,7 +288,7 @@ pub fn close<D: Disk + Drop>(store: FileStore<D>) -> Result<(), StoreError>
 /// Closes a store and opens its files again, as two runs of a program do, one after the other. It has what was committed, and takes the time
 /// of `close_files` and of `open`.
 ///
-/// ```rust crates/store_file/src/tests.rt
+/// ```rust crates/store_file_tests/src/files.rt
 /// let mut second = reopen(alloc, first)?;
 /// let found = is_filled(rt, &mut second, &mut row);
 /// ```

@@ -4,8 +4,6 @@
 pub mod catalog;
 pub mod fault;
 pub mod file;
-#[cfg(test)]
-mod tests;
 pub mod unsure;
 
 pub use fault::{OpenFault, ReopenFault};

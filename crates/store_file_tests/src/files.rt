@@ -4,11 +4,6 @@ ghost use Rattle.sqlite_disk.specs.Memory.{memory_is_usable};
 ghost use Rattle.sqlite_store.specs.FileStore.{view};
 ghost use Rattle.store_file.specs.Unsure.{disk_below};
 
-use crate::catalog::{
-    ABOUT, ABOUT_SQL, ENTRIES, ENTRIES_SQL, FORMER_ABOUT_SQL, FORMER_ENTRIES_SQL,
-};
-use crate::file::close_any;
-use crate::{OpenFault, Unsure, close, close_files, create, is_store, open, open_trusted, reopen};
 use sqlite_disk::{Disk, Files, Memory};
 use sqlite_pager::{Options, Pager};
 use sqlite_store::{FileStore, Unopened};
@@ -23,6 +18,13 @@ use sqlite_wal::PageSize;
 use std::alloc::Global;
 use std::process::Abort;
 use std::test::Fail;
+use store_file::catalog::{
+    ABOUT, ABOUT_SQL, ENTRIES, ENTRIES_SQL, FORMER_ABOUT_SQL, FORMER_ENTRIES_SQL,
+};
+use store_file::file::close_any;
+use store_file::{
+    OpenFault, Unsure, close, close_files, create, is_store, open, open_trusted, reopen,
+};
 
 type Pair = Files<Unsure<Memory>>;
 
