@@ -9,7 +9,7 @@ use crate::digest::Digest;
 /// The digest is a function of the hasher and the value, so peers whose hashers are equal give equal digests. Every
 /// implementation proves that equal values get equal digests.
 ///
-/// ```rust crates/mst_c/src/byte_hasher.rt
+/// ```rust crates/c_trees/src/byte_hasher.rt
 /// ghost digest_of = { λ hashing key. key_digest hashing key.items };
 ///
 /// ghost respects_eq = { λ hashing a b equal. ap (key_digest hashing) (same_text a.items b.items (sym equal)) };

@@ -121,7 +121,7 @@ impl<
     ///
     /// The rows have to end, and are taken to their end unless they are refused.
     ///
-    /// ```rust crates/mst_c/src/byte_tree.rt
+    /// ```rust crates/c_trees/src/byte_tree.rt
     /// match MerkleSearchTree::from_ascending(alloc, builder, pairs) {
     ///     Ok(tree) => {
     ///         self.tree = tree;

@@ -209,7 +209,7 @@ impl<K: Ord + KeyBytes, V, H: Hasher<N, K>, const N: usize> MerkleSearchTree<K, 
     /// The nodes of all pages, in ascending key order: as many items as the tree has keys. It looks at each page once, and compares
     /// no keys.
     ///
-    /// ```rust crates/mst_c/src/byte_tree.rt
+    /// ```rust crates/c_trees/src/byte_tree.rt
     /// 'nodes: for node in self.tree.node_iter()? {
     ///     put_digest(node, &mut out)?;
     /// }
@@ -342,7 +342,7 @@ impl<K: Ord + KeyBytes + Drop, V, H: Hasher<N, K>, const N: usize> MerkleSearchT
     /// of one level that are joined the nodes of the upper one; no page is copied. The depth of its recursion is the number of pages
     /// above the key and along the joint.
     ///
-    /// ```rust crates/mst_c/src/byte_tree.rt
+    /// ```rust crates/c_trees/src/byte_tree.rt
     /// match self.tree.remove(&own_key)? {
     ///     None => Ok(false),
     ///     Some(_) => Ok(true),

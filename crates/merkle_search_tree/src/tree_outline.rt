@@ -19,7 +19,7 @@ impl<K: Ord + KeyBytes, V, H: Hasher<N, K>, const N: usize> MerkleSearchTree<K, 
     /// The digest of the value at a key, where the key is there. On each page of the key's path it compares the key with at most as
     /// many keys as the number of the page's nodes has binary digits. It takes no memory.
     ///
-    /// ```rust crates/mst_c/src/byte_tree.rt
+    /// ```rust crates/c_trees/src/byte_tree.rt
     /// match self.tree.value_hash(&own_key) {
     ///     None => Ok(None),
     ///     Some(digest) => Ok(Some(*digest.as_bytes())),

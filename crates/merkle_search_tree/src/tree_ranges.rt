@@ -54,7 +54,7 @@ impl<K: Ord + KeyBytes, V, H: Hasher<N, K>, const N: usize> MerkleSearchTree<K, 
     /// The ranges of all pages, as [`serialise_page_ranges`](Self::serialise_page_ranges) lists them, one at a time; `None` where the
     /// tree isn't hashed. It compares no keys, and goes to each page once, and for its first and last key down to the pages that have them.
     ///
-    /// ```rust crates/mst_c/src/byte_tree.rt
+    /// ```rust crates/c_trees/src/byte_tree.rt
     /// let _ = self.root_hash();
     /// match self.tree.page_range_iter()? {
     ///     Some(ranges) => encoded_len(ranges),

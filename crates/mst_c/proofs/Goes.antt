@@ -26,8 +26,8 @@ use Rattle.std_alloc.specs.contracts.compared.VecPartialOrd.TheImpl as part
 use Rattle.std_heap.specs.contracts.Global as Heap
 use Rattle.std_heap.specs.contracts.GlobalAllocator.TheImpl.{ghosts}
 use Rattle.merkle_digest.specs.contracts.key_bytes.VecU8KeyBytes.TheImpl as keys
-use Rattle.mst_c.specs.contracts.byte_hasher.ByteHasher as Hasher
-use Rattle.mst_c.specs.contracts.byte_hasher.ByteHasherHasher16VecU8.TheImpl as hashes
+use Rattle.c_trees.specs.contracts.byte_hasher.ByteHasher as Hasher
+use Rattle.c_trees.specs.contracts.byte_hasher.ByteHasherHasher16VecU8.TheImpl as hashes
 use Rattle.std_heap.proofs.Global.TheSendSync as heap
 use Rattle.core.proofs.option.Option.TheSendSync as option
 use Rattle.merkle_digest.specs.contracts.wrappers.ValueDigest as ValueDigest
@@ -36,7 +36,7 @@ use Rattle.merkle_digest.proofs.wrappers.RootHash.TheSendSync as root_hash
 use Rattle.merkle_digest.proofs.wrappers.ValueDigest.TheSendSync as value_digest
 use Rattle.c_values.specs.Owned.{handle_owns}
 use Rattle.mst_c.specs.Goes.{HandleGoes}
-use Rattle.mst_c.specs.contracts.byte_tree.ByteTree as Tree
+use Rattle.c_trees.specs.contracts.byte_tree.ByteTree as Tree
 use Rattle.mst_c.specs.contracts.handle.MstTree.{the_type}
 
 -- the keys, as a type

@@ -3,9 +3,9 @@ use Rattle.std.specs.Prelude.{◌≡◌, ◌≢◌, ◌⊎◌, ℕ, ◌<◌, ◌
 use Rattle.key_order.specs.Map.{get}
 use Rattle.merkle_tree_theory.specs.State.{IsNew}
 use Rattle.merkle_tree_theory.specs.declared.page_format.PageFormat.{PageFormat}
-use Rattle.mst_c.specs.Trees.{ByteState}
+use Rattle.c_trees.specs.Trees.{ByteState}
 use Rattle.c_values.specs.Keys.{bytes_cmp, pairs_of}
-use Rattle.mst_c.specs.declared.byte_tree.ByteTree.{ByteTree}
+use Rattle.c_trees.specs.declared.byte_tree.ByteTree.{ByteTree}
 
 -- the handle has a tree, of which this holds
 abbrev pub HasTree : Option ByteTree → (ByteState → Type 0) → Type 0

@@ -1,8 +1,2 @@
 pub mod Handles
-pub mod Keys
-pub mod Lists
-pub mod Pages
-pub mod Spots
-pub mod Trees
-pub mod Wire
 pub mod Goes

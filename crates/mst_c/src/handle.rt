@@ -3,10 +3,10 @@ ghost use Rattle.std.specs.Coded.{coded_option};
 ghost use Rattle.std.specs.Option.{option_map};
 ghost use Rattle.std.specs.Prelude.{◌≡◌, None, Some, Option};
 ghost use Rattle.c_values.specs.Owned.{handle_owns};
-ghost use Rattle.mst_c.specs.contracts.byte_tree.ByteTree.{the_row};
-ghost use Rattle.mst_c.specs.declared.byte_tree.ByteTree.{ByteTree as Held};
+ghost use Rattle.c_trees.specs.contracts.byte_tree.ByteTree.{the_row};
+ghost use Rattle.c_trees.specs.declared.byte_tree.ByteTree.{ByteTree as Held};
 
-use crate::byte_tree::ByteTree;
+use c_trees::byte_tree::ByteTree;
 use c_values::Handle;
 use core::mem;
 use std::alloc::Global;

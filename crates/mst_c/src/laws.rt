@@ -1,6 +1,6 @@
 //! Laws over the definitions alone. The function has no effect and takes no memory.
 
-ghost use Rattle.mst_c.specs.Lists.{AreDigests, AreKeyRanges, ArePageRanges, AreRows, SpellOne};
+ghost use Rattle.c_trees.specs.Lists.{AreDigests, AreKeyRanges, ArePageRanges, AreRows, SpellOne};
 ghost use Rattle.mst_c.specs.Goes.{HandleGoes};
 ghost use denote.Param.Send.{IsSend};
 

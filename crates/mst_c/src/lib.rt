@@ -3,15 +3,9 @@
 //! A caller passes pointers that are not null, and slices as a pointer and a length. `c/mst.c` tests that, and is what programs call.
 #![tactic(auto)]
 
-mod byte_hasher;
-mod byte_tree;
 mod entries;
 mod handle;
-mod key;
 pub mod laws;
-mod reading;
 mod summaries;
 mod trees;
 mod updates;
-mod walk;
-mod wire;

@@ -3,13 +3,13 @@ ghost use Rattle.std.specs.Prelude.{◌≡◌, ◌≢◌, ◌↔◌, ◌⊎◌, 
 ghost use Rattle.merkle_tree_theory.specs.Hashed.{IsHashed};
 ghost use Rattle.merkle_tree_theory.specs.Stream.{page_digest};
 ghost use Rattle.mst_c.specs.Handles.{ChangesTree, HasTree, IsOutputWhere, IsOutputOf, IsShortWhere, IsShortOf};
-ghost use Rattle.mst_c.specs.Lists.{AreNotBothRanges, IsDiffOf, TellsDigests, TellsRanges};
-ghost use Rattle.mst_c.specs.Pages.{TellsPageList};
-ghost use Rattle.mst_c.specs.Trees.{SamePairs};
+ghost use Rattle.c_trees.specs.Lists.{AreNotBothRanges, IsDiffOf, TellsDigests, TellsRanges};
+ghost use Rattle.c_trees.specs.Pages.{TellsPageList};
+ghost use Rattle.c_trees.specs.Trees.{SamePairs};
 ghost use Rattle.c_values.specs.Keys.{key_items};
 
 use crate::handle::{MstTree, put_back, take_out};
-use crate::reading::differences;
+use c_trees::reading::differences;
 use c_values::status::{ARGUMENT, DONE, MEMORY, SHORT};
 use c_values::{MstBytes16, put_bytes, put_made};
 use std::alloc::Global;

@@ -3,11 +3,11 @@ ghost use Rattle.std.specs.Prelude.{◌≡◌, ◌≢◌, ◌≤◌, ◌↔◌, 
 ghost use Rattle.merkle_tree_theory.specs.declared.page_format.PageFormat.TheVariants.{V1, V2};
 ghost use Rattle.merkle_search_tree.specs.Loading.{row_count};
 ghost use Rattle.mst_c.specs.Handles.{ChangesTree, HasTreeDigest, HasNewTree, HasTree, MakesNoTree};
-ghost use Rattle.mst_c.specs.Trees.{IsCopied};
+ghost use Rattle.c_trees.specs.Trees.{IsCopied};
 ghost use Rattle.c_values.specs.Keys.{pairs_of};
 
-use crate::byte_tree::ByteTree;
 use crate::handle::{MstTree, put_back, take_out};
+use c_trees::byte_tree::ByteTree;
 use c_values::status::{ABSENT, ARGUMENT, DONE, MEMORY};
 use c_values::{MstBytes16, format_of};
 use std::alloc::Global;

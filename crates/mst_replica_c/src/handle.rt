@@ -3,10 +3,10 @@ ghost use Rattle.std.specs.Coded.{coded_option};
 ghost use Rattle.std.specs.Option.{option_map};
 ghost use Rattle.std.specs.Prelude.{◌≡◌, None, Some, Option};
 ghost use Rattle.c_values.specs.Owned.{handle_owns};
-ghost use Rattle.mst_replica_c.specs.contracts.byte_replica.ByteReplica.{the_row};
-ghost use Rattle.mst_replica_c.specs.declared.byte_replica.ByteReplica.{ByteReplica as Held};
+ghost use Rattle.c_replicas.specs.contracts.byte_replica.ByteReplica.{the_row};
+ghost use Rattle.c_replicas.specs.declared.byte_replica.ByteReplica.{ByteReplica as Held};
 
-use crate::byte_replica::ByteReplica;
+use c_replicas::byte_replica::ByteReplica;
 use c_values::Handle;
 use core::mem;
 use std::alloc::Global;

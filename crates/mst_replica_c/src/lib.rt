@@ -4,7 +4,6 @@
 //! A caller passes pointers that are not null, and slices as a pointer and a length. `c/mst_replica.c` tests that, and is what programs call.
 #![tactic(auto)]
 
-mod byte_replica;
 mod handle;
 mod messages;
 mod replicas;

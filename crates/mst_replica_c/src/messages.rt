@@ -2,13 +2,13 @@
 ghost use Rattle.std.specs.Prelude.{◌≡◌, ◌≢◌, ◌↔◌, ◌⊎◌, None, length};
 ghost use Rattle.merkle_wire.specs.Messages.{front};
 ghost use Rattle.merkle_wire.specs.declared.message.Kind.TheVariants.{Refusal};
-ghost use Rattle.mst_replica_c.specs.Calls.{AsksOn, HasBegun, JoinsWhatCame, IsAnswered, IsCutOff, IsDropped, IsIdle, IsOfOthers, IsStoppedBy, SameMessage, SameRows, SameSession};
+ghost use Rattle.c_replicas.specs.Calls.{AsksOn, HasBegun, JoinsWhatCame, IsAnswered, IsCutOff, IsDropped, IsIdle, IsOfOthers, IsStoppedBy, SameMessage, SameRows, SameSession};
 ghost use Rattle.c_rows.specs.Ends.{IsNoQuestion};
 ghost use Rattle.c_values.specs.Output.{IsOutput, IsShort};
 ghost use Rattle.c_values.specs.Handles.{Has, Changes};
 
-use crate::byte_replica::Taken;
 use crate::handle::{MstReplica, put_back, take_out};
+use c_replicas::byte_replica::Taken;
 use c_values::put_bytes;
 use c_values::status::{ABSENT, ARGUMENT, DONE, MEMORY};
 use std::alloc::Global;

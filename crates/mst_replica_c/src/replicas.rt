@@ -1,13 +1,13 @@
 //! Calls that make replicas and let them go, join values, and read what a replica has.
 ghost use Rattle.std.specs.Prelude.{◌≡◌, ◌≢◌, ◌↔◌, ◌⊎◌, None, length};
 ghost use Rattle.merkle_tree_theory.specs.declared.page_format.PageFormat.TheVariants.{V1, V2};
-ghost use Rattle.mst_replica_c.specs.Calls.{HasRootDigest, HasRows, HasValue, IsFresh, IsPut, OnlyHashes};
+ghost use Rattle.c_replicas.specs.Calls.{HasRootDigest, HasRows, HasValue, IsFresh, IsPut, OnlyHashes};
 ghost use Rattle.c_values.specs.Output.{IsOutput, IsShort};
 ghost use Rattle.c_values.specs.Handles.{Has, Changes};
-ghost use Rattle.mst_replica_c.specs.Values.{value_at};
+ghost use Rattle.c_replicas.specs.Values.{value_at};
 
-use crate::byte_replica::ByteReplica;
 use crate::handle::{MstReplica, put_back, take_out};
+use c_replicas::byte_replica::ByteReplica;
 use c_values::status::{ABSENT, ARGUMENT, DONE, MEMORY};
 use c_values::{MstBytes16, format_of, put_bytes, put_made};
 use std::alloc::Global;

@@ -3,10 +3,10 @@ ghost use Rattle.std.specs.Coded.{coded_option};
 ghost use Rattle.std.specs.Option.{option_map};
 ghost use Rattle.std.specs.Prelude.{◌≡◌, None, Some, Option};
 ghost use Rattle.c_values.specs.Owned.{handle_owns};
-ghost use Rattle.mst_sync_c.specs.contracts.byte_sync.ByteSync.{the_row};
-ghost use Rattle.mst_sync_c.specs.declared.byte_sync.ByteSync.{ByteSync as Held};
+ghost use Rattle.c_sides.specs.contracts.byte_sync.ByteSync.{the_row};
+ghost use Rattle.c_sides.specs.declared.byte_sync.ByteSync.{ByteSync as Held};
 
-use crate::byte_sync::ByteSync;
+use c_sides::byte_sync::ByteSync;
 use c_values::Handle;
 use core::mem;
 use std::alloc::Global;

@@ -5,12 +5,6 @@
 //! A caller passes pointers that are not null, and slices as a pointer and a length. `c/mst_sync.c` tests that, and is what programs call.
 #![tactic(auto)]
 
-mod byte_sync;
-mod handed;
 mod handle;
-pub mod laws;
 mod messages;
-mod needs;
-mod status;
 mod trees;
-mod unread;

@@ -2,15 +2,15 @@
 ghost use Rattle.std.specs.Prelude.{◌≡◌, ◌≢◌, ◌↔◌, ◌⊎◌, None, length};
 ghost use Rattle.merkle_wire.specs.Messages.{front};
 ghost use Rattle.merkle_wire.specs.declared.message.Kind.TheVariants.{Refusal};
-ghost use Rattle.mst_sync_c.specs.Calls.{AsksOn, EndsBy, HasBegun, HasBrought, IsAnswered, IsAnsweredWith, IsDropped, IsIdle, IsNeeded};
+ghost use Rattle.c_sides.specs.Calls.{AsksOn, EndsBy, HasBegun, HasBrought, IsAnswered, IsAnsweredWith, IsDropped, IsIdle, IsNeeded};
 ghost use Rattle.c_rows.specs.Ends.{IsNoQuestion};
-ghost use Rattle.mst_sync_c.specs.Calls.{IsOfOthers, IsStoppedBy, SameList, SameMessage, SameSession, SameTree};
+ghost use Rattle.c_sides.specs.Calls.{IsOfOthers, IsStoppedBy, SameList, SameMessage, SameSession, SameTree};
 ghost use Rattle.c_values.specs.Output.{IsOutput, IsShort};
 ghost use Rattle.c_values.specs.Handles.{Has, Changes};
 
-use crate::byte_sync::Taken;
 use crate::handle::{MstSync, put_back, take_out};
-use crate::status::NEEDS_ROWS;
+use c_sides::byte_sync::Taken;
+use c_sides::status::NEEDS_ROWS;
 use c_values::put_bytes;
 use c_values::status::{ABSENT, ARGUMENT, DONE, MEMORY};
 use std::alloc::Global;

@@ -1,11 +1,11 @@
 //! Calls that make sides and let them go, set and take out keys, and read what a tree has.
 ghost use Rattle.std.specs.Prelude.{◌≡◌, ◌≢◌, ◌↔◌, ◌⊎◌, None, Some, true, false};
 ghost use Rattle.merkle_tree_theory.specs.declared.page_format.PageFormat.TheVariants.{V1, V2};
-ghost use Rattle.mst_sync_c.specs.Calls.{HasAt, HasKeys, HasRootDigest, IsPairDel, IsFresh, IsPairSet, OnlyHashes};
+ghost use Rattle.c_sides.specs.Calls.{HasAt, HasKeys, HasRootDigest, IsPairDel, IsFresh, IsPairSet, OnlyHashes};
 ghost use Rattle.c_values.specs.Handles.{Has, Changes};
 
-use crate::byte_sync::ByteSync;
 use crate::handle::{MstSync, put_back, take_out};
+use c_sides::byte_sync::ByteSync;
 use c_values::status::{ABSENT, ARGUMENT, DONE, MEMORY};
 use c_values::{MstBytes16, format_of};
 use std::alloc::Global;

@@ -1,4 +1,4 @@
-use Rattle.mst_c.proofs.Ranges.{one_list_of_digests, one_list_of_key_ranges, one_list_of_page_ranges, one_list_of_rows}
+use Rattle.c_trees.proofs.Ranges.{one_list_of_digests, one_list_of_key_ranges, one_list_of_page_ranges, one_list_of_rows}
 use Rattle.mst_c.proofs.laws.a_list_is_read_in_one_way.Goals as goal
 
 pub returns : goal.returns

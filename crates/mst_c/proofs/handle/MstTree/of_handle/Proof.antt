@@ -2,8 +2,8 @@
 use Rattle.std.proofs.Common.{◌≡◌, refl}
 use Rattle.c_values.specs.contracts.handle.Handle as Handle
 use Rattle.c_values.proofs.Moved.{moved}
-use Rattle.mst_c.specs.contracts.byte_tree.ByteTree.{the_row}
-use Rattle.mst_c.proofs.byte_tree.ByteTree.TheLaws.{the_row_laws}
+use Rattle.c_trees.specs.contracts.byte_tree.ByteTree.{the_row}
+use Rattle.c_trees.proofs.byte_tree.ByteTree.TheLaws.{the_row_laws}
 use Rattle.mst_c.specs.contracts.handle.MstTree as MstTree
 use Rattle.mst_c.specs.contracts.handle.MstTree.of_handle as f
 use Rattle.mst_c.proofs.handle.MstTree.of_handle.Statement.{statement}

@@ -2,8 +2,8 @@
 use Rattle.std.proofs.Common.{◌≡◌, refl}
 use Rattle.c_values.specs.contracts.handle.Handle as Handle
 use Rattle.c_values.proofs.Moved.{moved}
-use Rattle.mst_replica_c.specs.contracts.byte_replica.ByteReplica.{the_row}
-use Rattle.mst_replica_c.proofs.byte_replica.ByteReplica.TheLaws.{the_row_laws}
+use Rattle.c_replicas.specs.contracts.byte_replica.ByteReplica.{the_row}
+use Rattle.c_replicas.proofs.byte_replica.ByteReplica.TheLaws.{the_row_laws}
 use Rattle.mst_replica_c.specs.contracts.handle.MstReplica as MstReplica
 use Rattle.mst_replica_c.specs.contracts.handle.MstReplica.of_handle as f
 use Rattle.mst_replica_c.proofs.handle.MstReplica.of_handle.Statement.{statement}

@@ -2,8 +2,8 @@
 use Rattle.std.proofs.Common.{◌≡◌, refl}
 use Rattle.c_values.specs.contracts.handle.Handle as Handle
 use Rattle.c_values.proofs.Moved.{moved}
-use Rattle.mst_sync_c.specs.contracts.byte_sync.ByteSync.{the_row}
-use Rattle.mst_sync_c.proofs.byte_sync.ByteSync.TheLaws.{the_row_laws}
+use Rattle.c_sides.specs.contracts.byte_sync.ByteSync.{the_row}
+use Rattle.c_sides.proofs.byte_sync.ByteSync.TheLaws.{the_row_laws}
 use Rattle.mst_sync_c.specs.contracts.handle.MstSync as MstSync
 use Rattle.mst_sync_c.specs.contracts.handle.MstSync.of_handle as f
 use Rattle.mst_sync_c.proofs.handle.MstSync.of_handle.Statement.{statement}

@@ -1,0 +1,8 @@
+pub mod Bytes
+pub mod Lists
+pub mod Loads
+pub mod Pages
+pub mod Ranges
+pub mod Sets
+pub mod Spots
+pub mod Strings

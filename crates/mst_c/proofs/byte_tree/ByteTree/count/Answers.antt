@@ -1,5 +1,0 @@
-use Rattle.std.proofs.Common.{arith, length, ap}
-use Rattle.mst_c.proofs.byte_tree.ByteTree.count.Goals as goal
-
-pub returns : goal.returns
-returns c = omega (arith, c.nodes.invariant.left, c.nodes.invariant.fits, ap length c.in-None.ensures.steps.0)

@@ -1,5 +1,0 @@
-use Rattle.mst_sync_c.proofs.Agreeing.{reply_alike}
-use Rattle.mst_sync_c.proofs.laws.rows_that_agree_have_the_same_reply.Goals as goal
-
-pub returns : goal.returns
-returns c = reply_alike
