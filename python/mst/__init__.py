@@ -9,14 +9,14 @@
 """
 from ._library import MalformedError, version
 from ._ranges import KeyRange, KeyRanges, PageRange, PageRanges, diff, unshared
-from ._register import Register
-from ._register_tree import MOST_TEXT, RegisterRows, RegisterTree, UntakenError
+from ._register import MOST_TEXT, Register, UntakenError
+from ._register_tree import RegisterRows, RegisterTree
 from ._replica import Replica
-from ._sync_tree import Rows, SyncTree
+from ._sync_tree import Rows, SyncTree, UnreadError
 from ._tree import Page, Tree
 from ._wire import LIMIT, MESSAGES, REFUSAL, SESSION_BYTES, SESSION_ROWS, RefusedError
 
 __version__ = version()
 __all__ = ["KeyRange", "KeyRanges", "LIMIT", "MESSAGES", "MOST_TEXT", "MalformedError", "Page", "PageRange", "PageRanges", "REFUSAL", "RefusedError",
-           "Register", "RegisterRows", "RegisterTree", "Replica", "Rows", "SESSION_BYTES", "SESSION_ROWS", "SyncTree", "Tree", "UntakenError", "diff",
-           "unshared", "version"]
+           "Register", "RegisterRows", "RegisterTree", "Replica", "Rows", "SESSION_BYTES", "SESSION_ROWS", "SyncTree", "Tree", "UnreadError", "UntakenError",
+           "diff", "unshared", "version"]

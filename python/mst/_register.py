@@ -11,8 +11,23 @@ from typing import Callable, Iterator, List, Optional, Tuple
 from ._library import MalformedError
 from ._sync_tree import SyncTree
 
+MOST_TEXT = 1 << 20
+"""How many bytes a key, a writer's name and a value have at most, each: `mst` takes nothing from a peer that sends a longer one."""
+
+LAST = (1 << 63) - 1
+"""The last time that a store can hold."""
+
 _DIGEST = 16
 _front = struct.Struct("<QQ")
+
+
+class UntakenError(ValueError):
+    """An entry that no `mst` takes: a part of it is too long, or its time is too late. Nothing of what comes with it is joined. `key` is its key, and
+    `part` says what is wrong: "key", "writer", "value" or "time"."""
+
+    def __init__(self, text: str, key: str = "", part: str = "") -> None:
+        super().__init__(text)
+        self.key, self.part = key, part
 
 
 @functools.total_ordering
@@ -47,18 +62,32 @@ class Register:
         clock = milliseconds() if now is None else now
         return cls(clock if held is None else max(clock, held.time + 1), writer, value)
 
+    def check(self, key: str, latest: int = LAST) -> None:
+        """UntakenError if `mst` doesn't take it at this key: if the key, the writer or the value has more than `MOST_TEXT` bytes, or the time is after
+        the latest one. Call it before a transaction of your own is committed; `join` of a `RegisterTree` does."""
+        for part, size in (("key", len(key.encode())), ("writer", len(self.writer.encode())), ("value", len(self.value or b""))):
+            if size > MOST_TEXT:
+                raise UntakenError(f"the entry at {key[:40]!r} isn't taken: its {part} has {size} bytes, and {MOST_TEXT} are the most", key, part)
+        if self.time > latest:
+            raise UntakenError(f"the entry at {key[:40]!r} isn't taken: its time is {self.time}, and {latest} is the latest", key, "time")
+
     def __lt__(self, other: object) -> bool:
         if not isinstance(other, Register):
             return NotImplemented
         return self._rank() < other._rank()
 
+    @property
+    def kind(self) -> int:
+        """What is compared before the value, as by a column in SQL: 0 of a removal, 1 of a value in UTF-8, and 2 of another one."""
+        return _mark(self.value)
+
     def _rank(self) -> "Tuple[int, bytes, int, bytes]":
-        return self.time, self.writer.encode(), _mark(self.value), self.value or b""
+        return self.time, self.writer.encode(), self.kind, self.value or b""
 
     def to_bytes(self) -> bytes:
         """The bytes that it has in a message."""
         writer = self.writer.encode()
-        front = _count(self.time) + _count(len(writer)) + writer + bytes([_mark(self.value)])
+        front = _count(self.time) + _count(len(writer)) + writer + bytes([self.kind])
         return front if self.value is None else front + _count(len(self.value)) + self.value
 
     @classmethod
@@ -73,7 +102,7 @@ class Register:
     def hashed_bytes(self) -> bytes:
         """The bytes of which its digest is."""
         writer = self.writer.encode()
-        return _front.pack(self.time, len(writer)) + writer + bytes([_mark(self.value)]) + (self.value or b"")
+        return _front.pack(self.time, len(writer)) + writer + bytes([self.kind]) + (self.value or b"")
 
     def digest(self, hash_key: bytes) -> bytes:
         """Its digest, 16 bytes, under a hash key of 16 bytes."""

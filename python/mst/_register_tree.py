@@ -8,17 +8,12 @@ import contextlib
 from typing import Generator, Iterable, Iterator, List, Optional, Protocol, Tuple
 
 from ._library import DONE, MALFORMED, MalformedError
-from ._register import Register, milliseconds, of_hashed_bytes, with_byte_strings, with_registers
+from ._register import LAST, Register, milliseconds, of_hashed_bytes, with_byte_strings, with_registers
 from ._sessions import Sessions
 from ._sync_tree import SyncTree
 from ._wire import LIMIT, MESSAGES, REFUSAL, SESSION_BYTES, SESSION_ROWS, Read, Write
 
-MOST_TEXT = 1 << 20
-"""How many bytes a key, a writer's name and a value have at most, each: `mst` takes nothing from a peer that sends a longer one."""
-
 _DAY = 86_400_000
-# The last time that a store can hold.
-_LAST = (1 << 63) - 1
 # The front of a question that asks for a delta.
 _BY_DELTA = b"\1\6"
 
@@ -27,15 +22,11 @@ Steps = Generator[bytes, bytes, List[Entry]]
 _ByteRow = Tuple[bytes, bytes]
 
 
-class UntakenError(ValueError):
-    """An entry isn't taken: it is too long, or its time is too late. Nothing of what comes with it is joined."""
-
-
 class RegisterRows(Protocol):
     """What a `RegisterTree` needs of rows that are kept elsewhere: the methods of `Rows`, with texts as keys and registers as values."""
 
     def get(self, key: str) -> "Optional[Register]":
-        """The register at a key, or None if the key was never written."""
+        """The register at a key, or None if the key was never written; None also at a key that the table can't hold."""
 
     def scan(self, first: str, end: "Optional[str]") -> "Iterable[Entry]":
         """The rows with first <= key < end, or all with first <= key if the end is None, in the order of the bytes of their keys. No more are
@@ -51,6 +42,9 @@ class RegisterTree(Sessions[RegisterRows, Entry]):
     other such trees. It is used as a `SyncTree`, whose documentation says more of the calls. Over a connection, after `mst serve --both` at the other end,
     call `catch_up` and then `serve`; with `mst pull` call `serve`, and after `mst pull --both` also `catch_up`. `serve` counts questions that asked for a
     delta, too.
+
+    UntakenError from each call that is given a row that no `mst` takes, or reads one: its key, writer or value has more than `MOST_TEXT` bytes, or its
+    time more than 63 bits. A peer would take nothing that comes with it.
 
     >>> class Rows:
     ...     def __init__(self):
@@ -78,20 +72,18 @@ class RegisterTree(Sessions[RegisterRows, Entry]):
             self.load(rows)
 
     def load(self, rows: RegisterRows) -> None:
-        """Makes the tree that of all rows, by one scan: when the program starts, and when it can't be sure that it told the tree of each write."""
+        """Makes the tree that of all rows, by one scan: when the program starts, and when it can't be sure that it told the tree of each write. If it
+        raises, the tree is as before: UntakenError names the first row that no `mst` takes."""
         self._tree.load(_ByteRows(rows))
 
     def join(self, rows: RegisterRows, came: "Iterable[Entry]") -> None:
         """Joins rows with those that are kept, by their own `join`, and sets the tree to what they then are: so `catch_up` does with what came, and so
-        a program writes. Each key comes once. ValueError if `mst` wouldn't take a row: its key, writer or value has more than `MOST_TEXT` bytes, or
-        its time more than 63 bits."""
-        joining = list(came)
-        for key, register in joining:
-            _expect_taken(key, register, _LAST)
-        self._tree.join(_ByteRows(rows), map(_byte_row, joining))
+        a program writes. Each key comes once (ValueError). Nothing is written if `mst` wouldn't take a row (UntakenError)."""
+        self._tree.join(_ByteRows(rows), map(_byte_row, came))
 
     def refresh(self, rows: RegisterRows, keys: "Iterable[str]" = ()) -> None:
-        """Looks up keys, and sets the tree to their rows as they are, or takes keys out: call it after the commit of each write that isn't by `join`."""
+        """Looks up keys, and sets the tree to their rows as they are, or takes keys out: call it after the commit of each write that isn't by `join`.
+        UnreadError, whose `keys` are in UTF-8, if `get` raises, or returns a register that no `mst` takes: so call `Register.check` before the commit."""
         self._tree.refresh(_ByteRows(rows), [key.encode() for key in keys])
 
     def get_digest(self, key: str) -> "Optional[bytes]":
@@ -179,8 +171,9 @@ class _ByteRows:
         self._rows = rows
 
     def get(self, key: bytes) -> "Optional[bytes]":
-        register = self._rows.get(_asked(key))
-        return None if register is None else register.hashed_bytes()
+        text = _asked(key)
+        register = self._rows.get(text)
+        return None if register is None else _byte_row((text, register))[1]
 
     def scan(self, first: bytes, end: "Optional[bytes]") -> "Iterator[_ByteRow]":
         found = self._rows.scan(_asked(first), None if end is None else _asked(end))
@@ -204,15 +197,8 @@ def _asked(key: bytes) -> str:
 
 def _byte_row(entry: Entry) -> _ByteRow:
     key, register = entry
+    register.check(key)
     return key.encode(), register.hashed_bytes()
-
-
-def _expect_taken(key: str, register: Register, latest: int) -> None:
-    """UntakenError if a side that takes times up to the latest one doesn't take an entry."""
-    if any(len(part) > MOST_TEXT for part in (key.encode(), register.writer.encode(), register.value or b"")):
-        raise UntakenError(f"an entry is too long: {key[:40]!r}")
-    if register.time > latest:
-        raise UntakenError(f"an entry has a time that is too late: {key[:40]!r}, {register.time}")
 
 
 def _taken(came: "List[_ByteRow]", latest: int) -> "List[Entry]":
@@ -220,8 +206,10 @@ def _taken(came: "List[_ByteRow]", latest: int) -> "List[Entry]":
     entries = []
     for key, value in came:
         try:
-            entries.append((key.decode(), of_hashed_bytes(value)))
+            text = key.decode()
         except UnicodeDecodeError:
             raise MalformedError("the peer sent a key that isn't in UTF-8") from None
-        _expect_taken(*entries[-1], min(latest, _LAST))
+        register = of_hashed_bytes(value)
+        register.check(text, min(latest, LAST))
+        entries.append((text, register))
     return entries

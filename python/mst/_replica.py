@@ -146,11 +146,13 @@ class Replica(Handle, Mapping[bytes, bytes]):
     def catch_up_steps(self, *, messages: int = MESSAGES, session_bytes: int = SESSION_BYTES) -> Steps:
         """A catch-up step by step, for a transport of one's own and for asyncio: it yields each question, whole, is sent the reply to it, and
         returns how many rows came. These are joined at the end, all at once; those of which this side has the greater value count too.
-        It asks that many questions at most, which have no more than `session_bytes` together with the replies.
+        It asks that many questions at most, which have no more than `session_bytes` together with the replies. ValueError where one of these is
+        no whole number from 0 on.
 
         MalformedError where a reply is none to what was asked, or the peer goes on for too long, and RefusedError where it refuses: the rows
         are as before. MalformedError comes too where rows were put into the peer's in between, so that a key came twice: then begin again.
         MemoryError where memory is refused: it says how many of the rows that came are joined."""
+        _wire.check_limits(messages=messages)
         mine, spent = object(), _wire.Spent(session_bytes)
         question = self._ask(mine)
         try:

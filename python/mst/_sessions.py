@@ -46,8 +46,8 @@ class Sessions(Generic[_Rows, _Row]):
 
     def serve(self, rows: _Rows, read: Read, write: Write, *, limit: int = LIMIT, messages: int = MESSAGES,
               session_bytes: int = SESSION_BYTES) -> int:
-        """Answers a peer that runs `catch_up`, until it says that it is done or ends, and returns how many questions it was answered. The
-        rest is as for `catch_up`, from the other side.
+        """Answers a peer that runs `catch_up`, until it says that it is done or ends, and returns how many questions it was answered: the same if
+        it joined the rows or hung up before it did. The rest is as for `catch_up`, from the other side.
 
         RefusedError if the peer has other settings, and MalformedError if it sends what is no question, one of more bytes than the limit,
         more questions than `messages`, or if all messages have more bytes than `session_bytes`: it is sent the refusal first, if it is still

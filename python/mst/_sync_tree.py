@@ -10,7 +10,7 @@ import itertools
 import os.path
 import struct
 import threading
-from typing import Callable, Dict, Generator, Iterable, Iterator, List, NoReturn, Optional, Protocol, Set, Tuple
+from typing import Callable, Dict, Generator, Iterable, Iterator, List, NoReturn, Optional, Protocol, Tuple
 
 from . import _wire
 from ._keys import keys_in
@@ -23,6 +23,10 @@ from ._wire import LIMIT, MESSAGES, SESSION_BYTES, SESSION_ROWS, Read, Write, ch
 _MOST = 1 << 22
 # What the look-up of a row counts for, besides its bytes.
 _ROW = 16
+# After how many look-ups that raised a refresh gives up: then it may be the database that is lost, and each look-up may take long to say so.
+_MOST_UNREAD = 8
+# How many bytes of a key an error shows.
+_SHOWN = 100
 
 _set = library.mst_sync_set
 _pack = struct.Struct("<Q").pack
@@ -31,12 +35,20 @@ Row = Tuple[bytes, bytes]
 Steps = Generator[bytes, bytes, List[Row]]
 
 
+class UnreadError(Exception):
+    """`get` raised for some keys, which `keys` has, so that the tree may not be in step with the rows there. The cause is what it raised first."""
+
+    def __init__(self, text: str, keys: "Iterable[bytes]" = ()) -> None:
+        super().__init__(text)
+        self.keys = list(keys)
+
+
 class Rows(Protocol):
     """What a catch-up needs of rows that are elsewhere, as in a table of a database: three methods. If threads write, catch up or serve
     at the same time, they call them at the same time."""
 
     def get(self, key: bytes) -> "Optional[bytes]":
-        """The value at a key, or None."""
+        """The value at a key, or None; None also at a key that the table can't hold."""
 
     def scan(self, first: bytes, end: "Optional[bytes]") -> "Iterable[Row]":
         """The rows with first <= key < end, or all with first <= key if the end is None, in the order of the bytes of their keys. No more are
@@ -79,7 +91,7 @@ class SyncTree(Sessions[Rows, Row], Handle):
     The rows are the truth, and the tree is never stored: `load` makes it of the rows, when the program starts. From then on it has to be told
     of each write, after the commit: `join` writes and tells it; after a write by other means call `refresh`. So nothing is lost if the program
     ends between a commit and the tree, and if it goes on after an error, the keys of that `join` or `refresh` are looked up again before the
-    next catch-up, answer or `refresh`.
+    next catch-up, answer or `refresh`. UnreadError, each time, while some of them can't be.
 
     Any thread may use a tree, to answer many peers too, and none waits for a peer. But it is in one catch-up at a time: if another begins, or
     the tree is loaded anew, the one before raises ValueError. So hold a lock round each `catch_up`, and none round `serve`, if threads catch
@@ -101,7 +113,8 @@ class SyncTree(Sessions[Rows, Row], Handle):
         # the one that was read last.
         self._writing = threading.RLock()
         self._under_way: "Optional[object]" = None
-        self._unsure: "Set[bytes]" = set()
+        # The keys to be looked up; those at which a look-up raised are the last.
+        self._unsure: "Dict[bytes, None]" = {}
         check(library.mst_sync_new_with(self._address, key, level_base, page_format))
         if rows is not None:
             self.load(rows)
@@ -109,8 +122,8 @@ class SyncTree(Sessions[Rows, Row], Handle):
     def load(self, rows: Rows) -> None:
         """Makes the tree that of all rows, by one scan: when the program starts, and when it can't be sure that it told the tree of each write,
         as after a restore of the database. `join` and `refresh` wait meanwhile; write by no other means. A catch-up that is under way ends
-        with ValueError. If the scan fails, or its keys don't ascend (ValueError), the tree is as before. It takes a few microseconds a row,
-        and never holds more than one row."""
+        with ValueError. If the scan fails, or its keys don't ascend (ValueError, which names two), the tree is as before. It takes a few
+        microseconds a row, and never holds more than one row."""
         with self._writing:
             fresh = self._loaded(rows)
             with self._lock:
@@ -119,7 +132,7 @@ class SyncTree(Sessions[Rows, Row], Handle):
                 self._handle, fresh._handle = fresh._handle, self._handle
                 self._address, fresh._address = fresh._address, self._address
                 self._under_way = None
-            self._unsure = set()
+            self._unsure = {}
 
     def _loaded(self, rows: Rows) -> "SyncTree":
         """Another tree, of all rows and with these settings."""
@@ -146,7 +159,8 @@ class SyncTree(Sessions[Rows, Row], Handle):
     def rescan(self, rows: Rows, first: bytes = b"", end: "Optional[bytes]" = None) -> None:
         """Sets the tree to the rows with first <= key < end, or all with first <= key if the end is None, as they are, by one scan of them, and
         takes out the keys there that have no row: after another program wrote or deleted some of them. `join` and `refresh` wait meanwhile; write
-        there by no other means. If it raises, the tree has some of these rows as they are and the others as they were: call it again."""
+        there by no other means. ValueError if keys aren't in this range, or don't ascend. If it raises, the tree has some of these rows as they
+        are and the others as they were: call it again."""
         if not (isinstance(first, bytes) and isinstance(end, (bytes, type(None)))):
             raise TypeError("keys are bytes")
         with self._writing:
@@ -157,6 +171,7 @@ class SyncTree(Sessions[Rows, Row], Handle):
                     gone.discard(key)
             for key in gone:
                 self.discard(key)
+            self._unsure = {key: None for key in self._unsure if key < first or (end is not None and key >= end)}
 
     def join(self, rows: Rows, came: "Iterable[Row]") -> None:
         """Joins rows with those that are kept, by their own `join`, and sets the tree to what they then are: so `catch_up` does with what came,
@@ -175,29 +190,47 @@ class SyncTree(Sessions[Rows, Row], Handle):
                 for key, value in rows.join(joining):
                     self[key] = value
             except BaseException:
-                self._unsure = self._unsure.union(key for key, _ in joining)
+                self._unsure = {**{key: None for key, _ in joining}, **self._unsure}
                 raise
 
     def refresh(self, rows: Rows, keys: "Iterable[bytes]" = ()) -> None:
         """Looks up keys, and sets the tree to their rows as they are, or takes keys out: call it after the commit of each write that isn't by
         `join`, and after writes of another program. Keys that weren't looked up because it raised are looked up the next time, as are those
-        of a `join` that raised."""
-        asked = set(keys)
+        of a `join` that raised.
+
+        UnreadError if `get` raises. It names the keys, and all others are looked up; but after eight such keys it leaves the rest for the next time."""
+        asked = {key: None for key in keys}
         if not all(isinstance(key, bytes) for key in asked):
             raise TypeError("keys are bytes")
         with self._writing:
-            left = asked.union(self._unsure)
+            left = {**asked, **self._unsure}
             try:
-                while left:
-                    key = next(iter(left))
-                    value = rows.get(key)
-                    if value is None:
-                        self.discard(key)
-                    else:
-                        self[key] = value
-                    left.discard(key)
+                unread = self._look_up(rows, left)
             finally:
                 self._unsure = left
+            if unread:
+                self._unsure = {key: None for key in [*(key for key in left if key not in unread), *unread]}
+                cause = next(iter(unread.values()))
+                names = ", ".join(map(_shown, unread))
+                raise UnreadError(f"the rows can't be looked up at {names}: {type(cause).__name__}: {cause}", unread) from cause
+
+    def _look_up(self, rows: Rows, left: "Dict[bytes, None]") -> "Dict[bytes, Exception]":
+        """Sets the tree to the rows at keys, and takes these out of what is left, but for those at which `get` raises. It returns what was raised."""
+        unread: "Dict[bytes, Exception]" = {}
+        for key in list(left):
+            try:
+                value = rows.get(key)
+            except Exception as error:
+                unread[key] = error
+                if len(unread) == _MOST_UNREAD:
+                    break
+                continue
+            if value is None:
+                self.discard(key)
+            else:
+                self[key] = value
+            del left[key]
+        return unread
 
     def __setitem__(self, key: bytes, value: bytes) -> None:
         """Sets a key to the digest of a value. That the row is written is the caller's to see to, and, if several threads write, that the tree
@@ -268,10 +301,11 @@ class SyncTree(Sessions[Rows, Row], Handle):
         """A catch-up step by step, for a transport of one's own: it yields each question, whole, is sent the reply to it, and returns the rows
         that came, in the order of their keys, each of which the tree lacks or has with another digest. Then give them to `join`: until then
         nothing changes. It asks that many questions at most, which have no more than `session_bytes` together with the replies, and no more than
-        `session_rows` rows come.
+        `session_rows` rows come. ValueError if one of these isn't a whole number from 0 on.
 
         MalformedError if a reply isn't one to what was asked, or the peer goes on for too long, and RefusedError if it refuses.
         MalformedError comes too if rows were written at the peer in between, so that a key came twice: then begin again."""
+        _wire.check_limits(messages=messages, session_rows=session_rows)
         mine, spent = object(), _wire.Spent(session_bytes)
         question = self._ask(mine)
         try:
@@ -472,6 +506,21 @@ def _list(rows: "List[Row]") -> bytes:
     return b"".join(parts)
 
 
+def _shown(key: bytes) -> str:
+    """A key in an error."""
+    return repr(key) if len(key) <= _SHOWN else f"{key[:_SHOWN]!r}.."
+
+
+def _disorder(key: bytes, before: "Optional[bytes]") -> str:
+    """What is wrong with a key that a scan returned, after another one that was well if there is one."""
+    if before is not None and key == before:
+        return f"scan returned the key {_shown(key)} twice: a key has one row, and where a scan goes on it begins after the last key"
+    text = 'a text in PostgreSQL needs COLLATE "C"'
+    if before is not None and key < before:
+        return f"scan returned {_shown(key)} after {_shown(before)}, which don't ascend by their bytes: {text}"
+    return f"scan returned {_shown(key)}, which isn't in the range by the order of bytes: {text}"
+
+
 def _scanned(rows: Rows, first: bytes, end: "Optional[bytes]") -> "Generator[Row, None, None]":
     """The rows of a range. ValueError if they aren't in it or don't ascend, as those of a table whose order isn't that of bytes."""
     if end is not None and end <= first:
@@ -481,7 +530,7 @@ def _scanned(rows: Rows, first: bytes, end: "Optional[bytes]") -> "Generator[Row
     try:
         for key, value in found:
             if key < first or (end is not None and key >= end) or (before is not None and key <= before):
-                raise ValueError("scan returned a key that isn't in the range, or keys that don't ascend by their bytes")
+                raise ValueError(_disorder(key, before))
             yield key, value
             before = key
     finally:

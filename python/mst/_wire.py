@@ -41,11 +41,19 @@ class RefusedError(ValueError):
     """A catch-up was refused by the side that was asked: mostly since the other side has another key of SipHash, level base or page format."""
 
 
+def check_limits(**limits: int) -> None:
+    """ValueError if one of these limits isn't a whole number from 0 on."""
+    for name, limit in limits.items():
+        if not isinstance(limit, int) or limit < 0:
+            raise ValueError(f"{name} is a whole number from 0 on, not {limit!r}")
+
+
 class Spent:
     """How many bytes the messages of a catch-up had so far, of those that they may have."""
 
-    def __init__(self, most: int) -> None:
-        self._most, self._bytes = most, 0
+    def __init__(self, session_bytes: int) -> None:
+        check_limits(session_bytes=session_bytes)
+        self._most, self._bytes = session_bytes, 0
 
     def add(self, *messages: bytes) -> None:
         """Counts messages; MalformedError if all have too many bytes."""
@@ -69,6 +77,7 @@ def check(status: int, joined: int = 0) -> None:
 
 def ask(steps: "Generator[bytes, bytes, _Came]", read: Read, write: Write, limit: int) -> "_Came":
     """Asks what the steps of a catch-up ask, and returns what they return. The peer isn't told that the catch-up is over."""
+    check_limits(limit=limit)
     with contextlib.closing(steps):
         question = next(steps)
         while True:
@@ -84,6 +93,7 @@ def ask(steps: "Generator[bytes, bytes, _Came]", read: Read, write: Write, limit
 async def ask_streams(steps: "Generator[bytes, bytes, _Came]", reader: asyncio.StreamReader, writer: asyncio.StreamWriter,
                       limit: int) -> "_Came":
     """The same over the streams of asyncio."""
+    check_limits(limit=limit)
     with contextlib.closing(steps):
         question = next(steps)
         while True:
@@ -98,6 +108,7 @@ async def ask_streams(steps: "Generator[bytes, bytes, _Came]", reader: asyncio.S
 
 def answer(answers: Answer, read: Read, write: Write, limit: int, messages: int, spent: Spent) -> int:
     """Answers a peer until it says that it is done or ends, and returns how many questions it was answered."""
+    check_limits(limit=limit, messages=messages)
     count = 0
     while True:
         try:
@@ -118,6 +129,7 @@ def answer(answers: Answer, read: Read, write: Write, limit: int, messages: int,
 async def answer_streams(answers: AnswerLater, reader: asyncio.StreamReader, writer: asyncio.StreamWriter, limit: int, messages: int,
                          spent: Spent) -> int:
     """The same over the streams of asyncio."""
+    check_limits(limit=limit, messages=messages)
     count = 0
     while True:
         try:

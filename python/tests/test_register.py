@@ -2,12 +2,13 @@
 store `mst` as the peer."""
 import asyncio
 import contextlib
+import pickle
 import random
 import socket
 import time
 import unittest
 
-from mst import MOST_TEXT, REFUSAL, Replica, MalformedError, RefusedError, Register, RegisterTree, SyncTree, UntakenError
+from mst import MOST_TEXT, REFUSAL, Replica, MalformedError, RefusedError, Register, RegisterTree, SyncTree, UnreadError, UntakenError
 from mst._register import of_hashed_bytes, with_byte_strings, with_registers
 
 from .common import Called, Rows, by_steps, in_threads, said_by
@@ -34,11 +35,17 @@ THEIRS = {"ant": VECTORS[1][0], "bee": VECTORS[2][0], "cow": VECTORS[3][0]}
 
 
 class Side(Called):
-    """A tree with its rows. What was put into the rows by other means isn't checked, as that of a peer."""
+    """A tree with its rows."""
 
     def __init__(self, table=(), hash_key=KEY):
         rows = Rows(table)
         super().__init__(rows, RegisterTree(rows, hash_key=hash_key))
+
+
+def peer_of(table):
+    """What answers as a store with these rows does, none of which it checks: a replica of the bytes that are hashed."""
+    peer = Replica(((key.encode(), register.hashed_bytes()) for key, register in table.items()), key=KEY, page_format=2)
+    return lambda question: with_registers(peer.answer(question))
 
 
 def drawn(draw, most, longest):
@@ -61,6 +68,7 @@ class Registers(unittest.TestCase):
             self.assertEqual(Register.from_bytes(bytes.fromhex(message)), register)
             self.assertEqual(register.hashed_bytes(), bytes.fromhex(hashed))
             self.assertEqual(register.digest(KEY).hex(), digest)
+        self.assertEqual([register.kind for register, *_ in VECTORS], [1, 1, 0, 1, 2])
 
     def test_bytes_of_no_register(self):
         for _, message, _, _ in VECTORS:
@@ -131,11 +139,8 @@ class CatchUps(unittest.TestCase):
             size, differing = draw.choice([(40, 9), (3000, 30), (3000, 3000)])
             common = {"key%04d" % number: drawn_register(draw, draw.choice([3, 40])) for number in range(size)}
             changed = {"key%04d" % draw.randrange(size): drawn_register(draw) for _ in range(differing)}
-            ours, theirs = Side(common), Replica(key=KEY, page_format=2)
-            for key, register in {**common, **changed}.items():
-                theirs.put(key.encode(), register.hashed_bytes())
-            self.assertEqual(by_steps(ours, lambda question: with_registers(theirs.answer(question)))[0],
-                             sum(common[key] != register for key, register in changed.items()))
+            ours = Side(common)
+            self.assertEqual(by_steps(ours, peer_of({**common, **changed}))[0], sum(common[key] != register for key, register in changed.items()))
             self.assertEqual(ours.rows.table, joined(common, changed))
             asking = Replica(key=KEY, page_format=2)
             by_steps(asking, lambda question: with_byte_strings(ours.answer(question)))
@@ -177,22 +182,73 @@ class CatchUps(unittest.TestCase):
         side.rows.table["emu"] = side.rows.table.pop("dog")
         side.tree.refresh(side.rows, ["dog", "emu"])
         self.assertEqual(side.tree.root_hash(), Side(side.rows.table).tree.root_hash())
-        before = dict(side.rows.table)
-        for key, register in untaken():
-            self.assertRaises(ValueError, side.tree.join, side.rows, [("fox", OURS["ant"]), (key, register)])
-        self.assertEqual(side.rows.table, before)
         side.tree.join(side.rows, [("k" * MOST_TEXT, Register((1 << 63) - 1, "w" * MOST_TEXT, b"v" * MOST_TEXT))])
+        side.tree.load(side.rows)
         with side.tree:
             self.assertEqual(len(side.tree), 4)
         self.assertRaises(ValueError, side.tree.root_hash)
         self.assertRaises(ValueError, RegisterTree, hash_key=b"short")
 
+    def not_taken(self, key, part, call, *words):
+        with self.assertRaises(UntakenError) as caught:
+            call(*words)
+        self.assertEqual((caught.exception.key, caught.exception.part), (key, part))
+        self.assertRegex(str(caught.exception), f"^the entry at 'k{{1,40}}' isn't taken: its {part} .{{1,100}}$")
+        self.assertEqual(pickle.loads(pickle.dumps(caught.exception)).part, part)
+
+    def test_rows_that_no_store_takes(self):
+        asks = [bytes.fromhex("01 05 01 00 00"), bytes.fromhex("01 04 01 02 01 6b")]
+        for key, register, part in untaken():
+            side = Side(OURS)
+            root = side.tree.root_hash()
+            self.not_taken(key, part, register.check, key)
+            self.not_taken(key, part, side.tree.join, side.rows, [("fox", OURS["ant"]), (key, register)])
+            self.assertEqual(side.rows.table, OURS)
+            # another program writes it, and the tree isn't told
+            side.rows.table[key] = register
+            for question in asks if key == "k" else asks[:1]:
+                self.not_taken(key, part, side.answer, question)
+                sent = []
+                self.not_taken(key, part, side.serve, said_by(question), sent.append)
+                self.assertEqual(sent, [])
+            self.not_taken(key, part, side.tree.load, side.rows)
+            self.assertEqual(side.tree.root_hash(), root)
+            side.rows.table["fox"] = OURS["ant"]
+            with self.assertRaises(UnreadError) as caught:
+                side.tree.refresh(side.rows, [key, "fox"])
+            self.assertEqual((caught.exception.keys, caught.exception.__cause__.part, len(side.tree)), ([key.encode()], part, 3))
+            self.assertRaises(UnreadError, side.answer, asks[0])
+            del side.rows.table[key]
+            self.assertEqual((by_steps(Side(), side.answer)[0], len(side.tree)), (3, 3))
+
+    def test_a_join_that_returns_a_row_that_no_store_takes(self):
+        for _, register, part in untaken()[1:]:
+            side = Side({"k": OURS["bee"]})
+            side.rows.table["k"] = register
+            side.rows.join = lambda came: [(key, side.rows.table[key]) for key, _ in came]
+            self.not_taken("k", part, by_steps, side, Side({"k": OURS["ant"]}).answer)
+            self.assertRaisesRegex(UnreadError, f"b'k': UntakenError: .* its {part} ", side.answer, b"any question")
+            side.rows.table["k"] = THEIRS["bee"]
+            self.assertEqual((side.answer(b"any question"), side.tree.root_hash()), (REFUSAL, Side(side.rows.table).tree.root_hash()))
+
+    def test_rows_that_come_in_another_order(self):
+        class Others(Rows):
+            def scan(self, first, end):
+                return [(key, OURS["ant"]) for key in self.keys]
+
+        side, rows = Side(OURS), Others()
+        for rows.keys, text in [(("b", "B"), "b'B' after b'b', .* COLLATE"), (("b", "b"), "b'b' twice: ")]:
+            self.assertRaisesRegex(ValueError, text, side.tree.load, rows)
+            self.assertRaisesRegex(ValueError, text, side.tree.answer, rows, bytes.fromhex("01 05 01 00 00"))
+            self.assertRaisesRegex(ValueError, text, RegisterTree, rows, hash_key=KEY)
+        self.assertEqual(side.tree.root_hash(), Side(OURS).tree.root_hash())
+
 
 def untaken():
-    """Entries that no side takes, whatever its clock says."""
+    """Entries that no side takes, whatever its clock says, and which part of each is wrong."""
     register = OURS["ant"]
-    return [("k" * (MOST_TEXT + 1), register), ("k", Register(1, "w" * (MOST_TEXT + 1), b"")), ("k", Register(1, "w", b"v" * (MOST_TEXT + 1))),
-            ("k", Register(1 << 63, "w", b""))]
+    return [("k" * (MOST_TEXT + 1), register, "key"), ("k", Register(1, "w" * (MOST_TEXT + 1), b""), "writer"),
+            ("k", Register(1, "w", b"v" * (MOST_TEXT + 1)), "value"), ("k", Register(1 << 63, "w", b""), "time")]
 
 
 class Peers(unittest.TestCase):
@@ -215,9 +271,11 @@ class Peers(unittest.TestCase):
         self.assertEqual([len(reply) - 8 for reply in sent], [len(bytes.fromhex(REPLIES[0])), 2, len(side.answer(plain))])
 
     def test_entries_that_are_not_taken(self):
-        for key, register in untaken():
-            side, peer = Side(OURS), Side({**THEIRS, key: register})
-            self.assertRaises(UntakenError, by_steps, side, peer.answer, latest=(1 << 64) - 1)
+        for key, register, part in untaken():
+            side = Side(OURS)
+            with self.assertRaises(UntakenError) as caught:
+                by_steps(side, peer_of({**THEIRS, key: register}), latest=(1 << 64) - 1)
+            self.assertEqual((caught.exception.key, caught.exception.part), (key, part))
             self.assertEqual((side.rows.table, side.tree.root_hash()), (OURS, Side(OURS).tree.root_hash()))
         for ahead, is_taken in [(86_400_000 - 60_000, True), (86_400_000 + 60_000, False)]:
             side, peer = Side(OURS), Side({"dog": Register(time.time_ns() // 1_000_000 + ahead, "bob", b"")})

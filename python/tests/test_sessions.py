@@ -7,9 +7,9 @@ import threading
 import time
 import unittest
 
-from mst import REFUSAL, MalformedError, RefusedError, Tree
+from mst import REFUSAL, MalformedError, RefusedError, RegisterTree, Tree
 
-from .common import KINDS, PAIRS, Side, both_ways, by_steps, in_threads, joined, number, over_streams, pair, rows_of, said_by
+from .common import KINDS, PAIRS, Called, Rows, Side, both_ways, by_steps, in_threads, joined, number, over_streams, pair, rows_of, said_by
 
 
 def every(step, most=300):
@@ -207,6 +207,28 @@ class Bounds(unittest.TestCase):
             ends = both(asks, answers)
             self.assertIsInstance(ends[0], RefusedError if answers else MalformedError)
             self.assertEqual((rows_of(ours), both({}, {})[0]), (every(2), [100]))
+
+    def test_bounds_that_are_none(self):
+        def never(_):
+            raise AssertionError("nothing is read or written")
+
+        registers = Called(Rows(), RegisterTree(hash_key=bytes(16)))
+        for side in [*(KINDS[kind](every(2)) for kind in KINDS), registers]:
+            has_rows = isinstance(side, Called)
+            for wrong in [-1, 1.5, "9", None]:
+                for name in ["limit", "messages", "session_bytes", *["session_rows"] * has_rows]:
+                    bound, text = {name: wrong}, f"^{name} is a whole number from 0 on, not {wrong!r}$"
+                    self.assertRaisesRegex(ValueError, text, side.catch_up, never, never, **bound)
+                    if name != "limit":
+                        self.assertRaisesRegex(ValueError, text, next, side.catch_up_steps(**bound))
+                    if name != "session_rows":
+                        self.assertRaisesRegex(ValueError, text, side.serve, never, never, **bound)
+                    if has_rows:
+                        self.assertRaisesRegex(ValueError, text, asyncio.run, side.tree.catch_up_streams(side.rows, None, None, **bound))
+                    if has_rows and name != "session_rows":
+                        self.assertRaisesRegex(ValueError, text, asyncio.run, side.tree.serve_streams(side.rows, None, None, **bound))
+        side = Side(every(2))
+        self.assertEqual(by_steps(side, Side(every(3)).answer, messages=1 << 9, session_bytes=1 << 64, session_rows=1 << 64)[0], 100)
 
 
 class Settings(unittest.TestCase):

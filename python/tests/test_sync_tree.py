@@ -17,7 +17,7 @@ import threading
 import unittest
 from unittest import mock
 
-from mst import MalformedError, RefusedError, Replica, SyncTree, Tree
+from mst import MalformedError, RefusedError, Replica, SyncTree, Tree, UnreadError
 from mst._library import ABSENT, library
 from mst._sync_tree import _list, _look_up
 
@@ -190,12 +190,20 @@ class Trees(unittest.TestCase):
                 return iter(self.out)
 
         rows, side = Others(), Side({b"%d" % i: b"" for i in range(9)})
-        for rows.out in [[(b"b", b""), (b"a", b"")], [(b"a", b""), (b"a", b"")]]:
-            self.assertRaisesRegex(ValueError, "ascend", side.tree.load, rows)
-            self.assertRaisesRegex(ValueError, "ascend", side.tree.answer, rows, asks_in([(None, None)]))
+        for keys, text in [((b"b", b"a"), "b'a' after b'b', .* COLLATE"), ((b"b", b"B"), "b'B' after b'b', .* COLLATE"), ((b"a", b"a"), "b'a' twice: ")]:
+            rows.out = [(key, b"") for key in keys]
+            for call in [side.tree.load, side.tree.verify, SyncTree, SyncTree().rescan]:
+                self.assertRaisesRegex(ValueError, text, call, rows)
+            self.assertRaisesRegex(ValueError, text, side.tree.answer, rows, asks_in([(None, None)]))
         for rows.out in [[(b"a", b"")], [(b"c", b"")], [(b"b", b""), (b"c", b"")]]:
-            self.assertRaisesRegex(ValueError, "range", side.tree.answer, rows, asks_in([(b"a", b"c")]))
-        self.assertEqual(len(side.tree), 9)
+            text = f"{rows.out[-1][0]}, which isn't in the range .* COLLATE"
+            self.assertRaisesRegex(ValueError, text, side.tree.answer, rows, asks_in([(b"a", b"c")]))
+            self.assertRaisesRegex(ValueError, text, SyncTree().rescan, rows, b"a\0", b"c")
+        rows.out = [(b"k" * 5000, b""), (b"j" * 5000, b"")]
+        with self.assertRaises(ValueError) as caught:
+            side.tree.load(rows)
+        self.assertLess(len(str(caught.exception)), 400)
+        self.assertEqual((len(side.tree), side.root_hash()), (9, Tree(rows_of(side)).root_hash()))
 
     def test_one_that_is_closed(self):
         rows = Rows({b"a": b"1"})
@@ -225,7 +233,7 @@ class Trees(unittest.TestCase):
         self.assertRaises(TypeError, steps.send, "text")
         for made in [copy.copy, copy.deepcopy, pickle.dumps]:
             self.assertRaises(TypeError, made, tree)
-        self.assertEqual((rows.table, len(tree), tree._unsure), ({b"a": b"1"}, 1, set()))
+        self.assertEqual((rows.table, len(tree), tree._unsure), ({b"a": b"1"}, 1, {}))
 
 
 class CatchUps(unittest.TestCase):
@@ -389,6 +397,28 @@ class Parts(unittest.TestCase):
         self.assertLess(side.rows.looked_up, 3 * 2000)
 
 
+class Texts(Rows):
+    """A table that can't hold keys with a byte 0, nor look them up."""
+
+    def get(self, key):
+        if b"\0" in key:
+            raise UnicodeError("no text")
+        return super().get(key)
+
+    def join(self, came):
+        for key, _ in came:
+            self.get(key)
+        return super().join(came)
+
+
+def both_ways_raising(ours, theirs):
+    """A catch-up each way; the error of this side if there is one."""
+    end = both_ways(ours, theirs)[0]
+    if isinstance(end, Exception):
+        raise end
+    return end
+
+
 class Faults(unittest.TestCase):
     """Rows that fail, and programs that end: nothing is lost."""
 
@@ -412,7 +442,7 @@ class Faults(unittest.TestCase):
             self.assertRaises(OSError, by_steps, ours, theirs.answer)
             self.assertEqual((rows_of(ours), len(ours.tree)), ({b"a": b"1", b"b": b"2", b"c": b"3"}, 1))
             ours.rows.fault["get"] = OSError("still lost")
-            self.assertRaises(OSError, ours.answer, b"any question")
+            self.assertRaisesRegex(UnreadError, "b'b', b'c': OSError: still lost", ours.answer, b"any question")
             ours.rows.fault.clear()
             if use == "catch_up":
                 self.assertEqual(both_ways(ours, theirs)[0][0], 0)
@@ -421,17 +451,67 @@ class Faults(unittest.TestCase):
             else:
                 ours.tree.refresh(ours.rows)
             self.in_step(ours)
-            self.assertEqual(ours.tree._unsure, set())
+            self.assertEqual(ours.tree._unsure, {})
 
     def test_a_refresh_that_fails_is_made_up_for(self):
         ours, theirs = Side({b"a": b"1", b"b": b"1"}), Side()
         ours.rows.table.update({b"a": b"2", b"c": b"3"})
         del ours.rows.table[b"b"]
         ours.rows.fault["get"] = OSError("lost")
-        self.assertRaises(OSError, ours.tree.refresh, ours.rows, [b"a", b"b", b"c"])
+        self.assertRaises(UnreadError, ours.tree.refresh, ours.rows, [b"a", b"b", b"c"])
         ours.rows.fault.clear()
         self.assertEqual((by_steps(theirs, ours.answer)[0], rows_of(theirs)), (2, {b"a": b"2", b"c": b"3"}))
         self.in_step(ours)
+
+    def unread(self, call, *words):
+        """The keys at which a call can't look up rows."""
+        with self.assertRaises(UnreadError) as caught:
+            call(*words)
+        self.assertIsInstance(caught.exception.__cause__, UnicodeError)
+        self.assertIn("UnicodeError: no text", str(caught.exception))
+        self.assertTrue(all(repr(key) in str(caught.exception) for key in caught.exception.keys))
+        self.assertEqual(copy.copy(caught.exception).keys, caught.exception.keys)
+        self.assertEqual(pickle.loads(pickle.dumps(caught.exception)).keys, caught.exception.keys)
+        return caught.exception.keys
+
+    def test_a_key_that_cant_be_looked_up(self):
+        for way_out in ["get", "rescan", "load"]:
+            side = Side(rows=Texts({b"a": b"1"}))
+            self.assertRaises(UnicodeError, side.tree.join, side.rows, [(b"b", b"1"), (b"k\0", b""), (b"z", b"1")])
+            # the other keys are looked up, in whatever order, and others go on
+            side.rows.table.update({b"b": b"2", b"z": b"3"})
+            self.assertEqual(self.unread(side.answer, b"any question"), [b"k\0"])
+            self.in_step(side)
+            self.assertEqual(self.unread(both_ways_raising, side, Side({b"c": b"1"})), [b"k\0"])
+            side.rows.table[b"d"] = b"4"
+            self.assertEqual(self.unread(side.tree.refresh, side.rows, [b"d"]), [b"k\0"])
+            self.in_step(side)
+            side.tree.rescan(side.rows, b"a", b"k\0")
+            self.assertEqual(self.unread(side.tree.refresh, side.rows), [b"k\0"])
+            if way_out == "get":
+                side.rows.get = Rows(side.rows.table).get
+            elif way_out == "rescan":
+                side.tree.rescan(side.rows, b"k\0", b"k\0\0")
+            else:
+                side.tree.load(side.rows)
+            self.assertEqual((both_ways(side, Side({b"c": b"1"}))[0][0], side.tree._unsure), (1, {}))
+            self.in_step(side)
+
+    def test_many_keys_that_cant_be_looked_up(self):
+        bad, good = [b"%02d\0" % i for i in range(20)], [b"%02d" % i for i in range(30)]
+        side = Side(rows=Texts())
+        side.rows.table.update((key, b"1") for key in good)
+        # eight in a call, and then others first
+        self.assertEqual(self.unread(side.tree.refresh, side.rows, [*bad, *good]), bad[:8])
+        self.assertEqual((len(side.tree), side.rows.looked_up), (0, 0))
+        self.assertEqual(self.unread(side.tree.refresh, side.rows), bad[8:16])
+        self.assertEqual(self.unread(side.tree.refresh, side.rows), [*bad[16:], *bad[:4]])
+        self.assertEqual(side.rows.looked_up, 30)
+        self.in_step(side)
+        side.rows.table[b"new"] = b"2"
+        self.assertEqual(self.unread(side.tree.refresh, side.rows, [b"new"]), bad[4:12])
+        self.in_step(side)
+        self.assertEqual(sorted(side.tree._unsure), bad)
 
     def test_a_refresh_after_writes_of_another_program(self):
         side = Side({b"%d" % i: b"1" for i in range(50)})

@@ -22,7 +22,7 @@ fn main() -> io::Result<()> {
         rows.insert(key.to_owned(), write);
     }
     let mut tree = RegisterTree::new(&hasher);
-    tree.load(&mut rows).unwrap_or_else(|never| match never {});
+    tree.load(&mut rows)?;
     if let Some(program) = words.next() {
         let mut store = Command::new(program).args(words).stdin(Stdio::piped()).stdout(Stdio::piped()).spawn()?;
         let mut pipes = Pipes(store.stdout.take().unwrap(), store.stdin.take().unwrap());

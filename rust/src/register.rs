@@ -35,7 +35,7 @@
 //! # }
 //! ```
 //!
-//! Write a row by [`Register::over`], commit it, and then [`RegisterTree::set`] its key. What follows if a step fails is as of a
+//! Write a row by [`Register::over`], [`Register::check`] and commit it, and then [`RegisterTree::set`] its key. What follows if a step fails is as of a
 //! [`SyncTree`](crate::sync#if-a-step-fails). [`take`] and [`answer`] do one step, for any other transport, and the calls of a [`RegisterTree`] read and
 //! write neither a connection nor a row.
 //!
@@ -99,6 +99,15 @@ impl Register {
         Self { time, writer: writer.into(), value }
     }
 
+    /// What is compared before the value, as by a column in SQL: 0 of a removal, 1 of a value in UTF-8, and 2 of another one.
+    pub fn kind(&self) -> u8 {
+        match &self.value {
+            None => 0,
+            Some(value) if str::from_utf8(value).is_ok() => 1,
+            Some(_) => 2,
+        }
+    }
+
     /// The bytes that it has in a message.
     pub fn to_bytes(&self) -> Vec<u8> {
         let mut bytes = Vec::new();
@@ -110,7 +119,7 @@ impl Register {
         encode_count(self.time, bytes);
         encode_count(self.writer.len() as u64, bytes);
         bytes.extend_from_slice(self.writer.as_bytes());
-        bytes.push(self.mark());
+        bytes.push(self.kind());
         if let Some(value) = &self.value {
             encode_count(value.len() as u64, bytes);
             bytes.extend_from_slice(value);
@@ -131,7 +140,26 @@ impl Register {
         let value = if mark == 0 { None } else { Some(reader.string()?.to_vec()) };
         let register = Self { time, writer, value };
         // A value has one form.
-        (register.mark() == mark).then_some(register)
+        (register.kind() == mark).then_some(register)
+    }
+
+    /// An error if `mst` doesn't take it at this key: if the key, the writer or the value has more than [`MOST_TEXT`] bytes, or the time is 2^63 or
+    /// later. Call it before a write is committed: after the commit [`RegisterTree::set`] does.
+    pub fn check(&self, key: &str) -> Result<(), Untaken> {
+        self.check_until(LAST, key)
+    }
+
+    /// The same for another latest time.
+    fn check_until(&self, latest: u64, key: &str) -> Result<(), Untaken> {
+        let value_len = self.value.as_ref().map_or(0, Vec::len);
+        let parts = [(Part::Key, key.len()), (Part::Writer, self.writer.len()), (Part::Value, value_len)];
+        if let Some((part, _)) = parts.into_iter().find(|(_, len)| *len > MOST_TEXT) {
+            return Err(Untaken::TooLong { key: key.to_owned(), part });
+        }
+        if self.time > latest.min(LAST) {
+            return Err(Untaken::TooLate { key: key.to_owned(), time: self.time });
+        }
+        Ok(())
     }
 
     /// The bytes of which its digest is.
@@ -139,7 +167,7 @@ impl Register {
         let mut bytes = self.time.to_le_bytes().to_vec();
         bytes.extend_from_slice(&(self.writer.len() as u64).to_le_bytes());
         bytes.extend_from_slice(self.writer.as_bytes());
-        bytes.push(self.mark());
+        bytes.push(self.kind());
         bytes.extend_from_slice(self.value.as_deref().unwrap_or_default());
         bytes
     }
@@ -165,16 +193,7 @@ impl Register {
     }
 
     fn rank(&self) -> (u64, &str, u8, Option<&[u8]>) {
-        (self.time, &self.writer, self.mark(), self.value.as_deref())
-    }
-
-    /// The byte before its value: 1 if that is in UTF-8, and else 2; or 0 of a removal.
-    fn mark(&self) -> u8 {
-        match &self.value {
-            None => 0,
-            Some(value) if str::from_utf8(value).is_ok() => 1,
-            Some(_) => 2,
-        }
+        (self.time, &self.writer, self.kind(), self.value.as_deref())
     }
 }
 
@@ -284,11 +303,16 @@ impl RangeBounds<str> for Range<'_> {
     }
 }
 
-/// Why an entry of a peer isn't taken, and nothing else of it either. As an [`io::Error`] it is of the kind `InvalidData`.
+/// Why an entry isn't taken, and nothing else that comes with it either. As an [`io::Error`] it is of the kind `InvalidData`.
 #[derive(Debug, Clone, PartialEq, Eq)]
 pub enum Untaken {
-    /// Its key, its writer or its value has more than [`MOST_TEXT`] bytes.
-    TooLong,
+    /// A part of the entry at this key has more than [`MOST_TEXT`] bytes.
+    TooLong {
+        /// The key.
+        key: String,
+        /// Which part it is.
+        part: Part,
+    },
     /// The time of the register at this key is later than is taken.
     TooLate {
         /// The key.
@@ -298,13 +322,37 @@ pub enum Untaken {
     },
 }
 
+/// A part of an entry that has a greatest length.
+#[derive(Debug, Clone, Copy, PartialEq, Eq)]
+pub enum Part {
+    /// The key.
+    Key,
+    /// The name of the writer.
+    Writer,
+    /// The value.
+    Value,
+}
+
+impl fmt::Display for Part {
+    fn fmt(&self, f: &mut fmt::Formatter<'_>) -> fmt::Result {
+        f.write_str(match self {
+            Self::Key => "key",
+            Self::Writer => "writer",
+            Self::Value => "value",
+        })
+    }
+}
+
 impl fmt::Display for Untaken {
     fn fmt(&self, f: &mut fmt::Formatter<'_>) -> fmt::Result {
+        const SHOWN: usize = 40;
+        let (Self::TooLong { key, .. } | Self::TooLate { key, .. }) = self;
+        let key: String = key.chars().take(SHOWN).collect();
         match self {
-            Self::TooLong => f.write_str("the peer sent an entry that is too long"),
-            Self::TooLate { key, time } => {
-                write!(f, "the peer sent an entry with a time that is too late: {}, {time}", key.escape_debug())
+            Self::TooLong { part, .. } => {
+                write!(f, "the entry at {key:?} isn't taken: its {part} has more than {MOST_TEXT} bytes")
             }
+            Self::TooLate { time, .. } => write!(f, "the entry at {key:?} isn't taken: its time, {time}, is too late"),
         }
     }
 }
@@ -355,19 +403,16 @@ impl RegisterTree {
     }
 
     /// Makes the tree that of these rows, by one scan of them: at the start, and whenever it may not have what the rows are. If it fails, the tree
-    /// is as before. A catch-up that is under way ends.
-    pub fn load<R: Registers + ?Sized>(&mut self, rows: &mut R) -> Result<(), R::Error> {
-        self.tree.load_by(|set| {
-            rows.registers_in(Range { first: "", end: None }, &mut |key, register| {
-                set(key.as_bytes(), &register.hashed_bytes());
-                true
-            })
-        })
+    /// is as before: as [`SyncTree::load`] does, and with [`Failed::Untaken`] if a row is one that no `mst` takes. A catch-up that is under way ends.
+    pub fn load<R: Registers + ?Sized>(&mut self, rows: &mut R) -> Result<(), Failed<R::Error>> {
+        self.tree.load(&mut ByteRows { rows, latest: 0 }).map_err(failed_of)
     }
 
-    /// Sets a key to the digest of a register: after each commit, to the one that the row now has.
-    pub fn set(&mut self, key: &str, register: &Register) {
-        self.tree.set(key, register.hashed_bytes());
+    /// Sets a key to the digest of a register: after each commit, to the one that the row now has. An error if no `mst` takes it, which
+    /// [`Register::check`] says before the commit; the tree is then as before.
+    pub fn set(&mut self, key: &str, register: &Register) -> Result<(), Untaken> {
+        self.tree.set(key, hashed_at(key, register)?);
+        Ok(())
     }
 
     /// Takes a key out, as one whose removal is forgotten, and says whether it was there. A peer that has the row brings it back.
@@ -447,20 +492,39 @@ impl<R: Registers + ?Sized> Rows for ByteRows<'_, R> {
     type Error = Failed<R::Error>;
 
     fn value(&mut self, key: &[u8]) -> Result<Option<Vec<u8>>, Self::Error> {
-        let register = self.rows.register(text(key)?).map_err(Failed::Rows)?;
-        Ok(register.map(|register| register.hashed_bytes()))
+        let key = text(key)?;
+        let register = self.rows.register(key).map_err(Failed::Rows)?;
+        Ok(register.map(|register| hashed_at(key, &register)).transpose()?)
     }
 
     fn rows_in(&mut self, range: sync::Range<'_>, give: &mut sync::Give<'_>) -> Result<(), Self::Error> {
         let range = Range { first: text(range.first)?, end: range.end.map(text).transpose()? };
-        let mut give = |key: &str, register: &Register| give(key.as_bytes(), &register.hashed_bytes());
-        self.rows.registers_in(range, &mut give).map_err(Failed::Rows)
+        let mut taken = Ok(());
+        let mut give = |key: &str, register: &Register| match hashed_at(key, register) {
+            Ok(value) => taken.is_ok() && give(key.as_bytes(), &value),
+            Err(untaken) => {
+                taken = Err(untaken);
+                false
+            }
+        };
+        self.rows.registers_in(range, &mut give).map_err(Failed::Rows)?;
+        Ok(taken?)
     }
 
     fn join(&mut self, came: &Came) -> Result<Vec<Row>, Self::Error> {
         let changed = self.rows.join(entries_of(came, self.latest)?).map_err(Failed::Rows)?;
-        Ok(changed.into_iter().map(|(key, register)| (key.into_bytes(), register.hashed_bytes())).collect())
+        let byte_row = |(key, register): Entry| -> Result<Row, Self::Error> {
+            let value = hashed_at(&key, &register)?;
+            Ok((key.into_bytes(), value))
+        };
+        changed.into_iter().map(byte_row).collect()
     }
+}
+
+/// The bytes of a register that are hashed, if `mst` takes it at this key.
+fn hashed_at(key: &str, register: &Register) -> Result<Vec<u8>, Untaken> {
+    register.check(key)?;
+    Ok(register.hashed_bytes())
 }
 
 /// A key of a peer: a text.
@@ -476,13 +540,7 @@ pub fn entries_of(came: &Came, latest: u64) -> io::Result<Vec<Entry>> {
 
 fn entry_of(key: &[u8], value: &[u8], latest: u64) -> io::Result<Entry> {
     let (key, register) = (text(key)?.to_owned(), Register::of_hashed_bytes(value).ok_or(Fault::Malformed)?);
-    let value_len = register.value.as_ref().map_or(0, Vec::len);
-    if [key.len(), register.writer.len(), value_len].into_iter().any(|len| len > MOST_TEXT) {
-        return Err(Untaken::TooLong.into());
-    }
-    if register.time > latest.min(LAST) {
-        return Err(Untaken::TooLate { key, time: register.time }.into());
-    }
+    register.check_until(latest, &key)?;
     Ok((key, register))
 }
 
@@ -491,7 +549,8 @@ fn failed_of<E>(failed: Failed<Failed<E>>) -> Failed<E> {
     match failed {
         Failed::Io(error) => Failed::Io(error),
         Failed::Rows(failed) => failed,
-        Failed::NotAscending => Failed::NotAscending,
+        Failed::NotAscending(out) => Failed::NotAscending(out),
+        Failed::Untaken(untaken) => Failed::Untaken(untaken),
     }
 }
 
@@ -555,7 +614,7 @@ pub fn catch_up_within<R: Registers + ?Sized>(
 }
 
 /// Answers a peer that catches up, such as `mst pull`, until it says that it is done or ends, and returns how many questions it was answered; those
-/// that asked for a delta count too. The errors are those of [`sync::serve`].
+/// that asked for a delta count too. The errors are those of [`sync::serve`], and [`Failed::Untaken`] if it reads a row that no `mst` takes.
 pub fn serve<R: Registers + ?Sized>(
     tree: &mut RegisterTree,
     rows: &mut R,

@@ -55,6 +55,7 @@
 //! | The program ends between the commit and the tree | The next start loads the tree from the rows |
 //! | The connection is lost after the commit | An error, since the peer can't be told of the end. The rows are joined and the tree is set |
 //! | [`Rows::value`] or [`Rows::rows_in`] fails | [`Failed::Rows`]. The peer gets no reply; rows and tree are as before |
+//! | [`Rows::rows_in`] gives keys in another order than that of their bytes | [`Failed::NotAscending`], which names them, from a load too |
 //! | Another program writes or deletes rows | Neither the tree nor peers know of it until [`SyncTree::rescan`] of a range or [`SyncTree::load`]. [`SyncTree::verify`] names the keys |
 //!
 //! # Without a connection, and under tokio
@@ -124,11 +125,12 @@ use crate::{
     granted,
     keys::keys_in,
     list,
+    register::Untaken,
     replica::{self, answering, asking, expect_same, Fault, Limits, Step, TOO_MANY_ROWS},
     settings::Settings,
     sys::{self, Answered, Refused},
     wire::unexpected,
-    NotAscending, OutOfMemory,
+    OutOfMemory,
 };
 use std::{
     collections::{BTreeMap, BTreeSet},
@@ -451,7 +453,7 @@ impl Default for SyncTree {
 
 impl SyncTree {
     /// A tree without keys, with these settings. Peers have all three in common, as [replicas](crate::replica::Replica::with_settings) do, and
-    /// refuse others.
+    /// refuse others. If others choose keys, take a hasher under a secret key.
     pub fn with_settings(hasher: &SipHasher, level_base: NonZeroU8, page_format: PageFormat) -> Self {
         granted(Self::try_with_settings(hasher, level_base, page_format))
     }
@@ -466,36 +468,28 @@ impl SyncTree {
         Ok(Self { side: settings.side()?, settings, begun: 0 })
     }
 
-    /// Makes the tree that of these rows, by one scan of them. If it fails, the tree is as before. A catch-up that is under way ends.
+    /// Makes the tree that of these rows, by one scan of them. If it fails, the tree is as before: [`Failed::Rows`] if the scan does, and
+    /// [`Failed::NotAscending`] if its keys don't ascend by their bytes. A catch-up that is under way ends.
     ///
     /// Call it at the start, and whenever the tree may not have what the rows are. For rows that are read otherwise, call [`SyncTree::set`]
     /// for each, on a new tree.
-    pub fn load<R: Rows + ?Sized>(&mut self, rows: &mut R) -> Result<(), R::Error> {
-        self.load_by(|set| {
-            rows.rows_in(Range::ALL, &mut |key, value| {
-                set(key, value);
-                true
-            })
-        })
-    }
-
-    /// The same for rows that a scan sets one by one.
-    pub(crate) fn load_by<E>(
-        &mut self,
-        scan: impl FnOnce(&mut dyn FnMut(&[u8], &[u8])) -> Result<(), E>,
-    ) -> Result<(), E> {
+    pub fn load<R: Rows + ?Sized>(&mut self, rows: &mut R) -> Result<(), Failed<R::Error>> {
         let mut side = granted(self.settings.side());
-        scan(&mut |key, value| granted(side.set(key, value)))?;
+        scan(Range::ALL, rows, |key, value| {
+            granted(side.set(key, value));
+            true
+        })?;
         self.side = side;
         Ok(())
     }
 
     /// Sets the tree to the rows in a range as they are, by one scan of them, and takes out the keys there that have no row: after another program
-    /// wrote or deleted some of them. If it fails, the tree has some of these rows as they are and the others as they were: call it again.
-    pub fn rescan<R: Rows + ?Sized>(&mut self, rows: &mut R, range: Range<'_>) -> Result<(), R::Error> {
+    /// wrote or deleted some of them. If it fails, as [`SyncTree::load`] does, the tree has some of these rows as they are and the others as they
+    /// were: call it again.
+    pub fn rescan<R: Rows + ?Sized>(&mut self, rows: &mut R, range: Range<'_>) -> Result<(), Failed<R::Error>> {
         let mut gone: BTreeSet<Vec<u8>> = granted(keys_in(&mut self.side, range)).into_iter().collect();
         let side = &mut self.side;
-        rows.rows_in(range, &mut |key, value| {
+        scan(range, rows, |key, value| {
             granted(side.set(key, value));
             gone.remove(key);
             true
@@ -509,8 +503,9 @@ impl SyncTree {
     /// The keys at which the tree isn't that of the rows, in their order; none if it is in step. They are those of rows that the tree lacks or has
     /// with another digest, and those of the tree that have no row: set or remove each, or [`SyncTree::load`] the tree anew.
     ///
-    /// It makes another tree by one scan, and compares root hashes. Only if these differ does it go over the keys of both.
-    pub fn verify<R: Rows + ?Sized>(&mut self, rows: &mut R) -> Result<Vec<Vec<u8>>, R::Error> {
+    /// It makes another tree by one scan, and compares root hashes. Only if these differ does it go over the keys of both. It fails as
+    /// [`SyncTree::load`] does.
+    pub fn verify<R: Rows + ?Sized>(&mut self, rows: &mut R) -> Result<Vec<Vec<u8>>, Failed<R::Error>> {
         let Settings { hasher, level_base, page_format } = &self.settings;
         let mut fresh = Self::with_settings(hasher, *level_base, *page_format);
         fresh.load(rows)?;
@@ -624,7 +619,7 @@ impl fmt::Debug for SyncTree {
     }
 }
 
-/// Why a catch-up or the answers to a peer ended early.
+/// Why a catch-up, the answers to a peer or a scan ended early.
 #[derive(Debug)]
 pub enum Failed<E> {
     /// The connection, the peer or memory. The errors are those of [`Replica::catch_up`](crate::replica::Replica::catch_up) and
@@ -633,7 +628,60 @@ pub enum Failed<E> {
     /// The rows: what a call of [`Rows`] returned.
     Rows(E),
     /// [`Rows::rows_in`] gave a row that isn't in the range, or rows that don't ascend by the bytes of their keys.
-    NotAscending,
+    NotAscending(OutOfOrder),
+    /// [`Registers`](crate::register::Registers) gave a register that no `mst` takes. Mend the row, and call
+    /// [`RegisterTree::load`](crate::register::RegisterTree::load): if it is one that a join returned, the others are joined already. (One that a
+    /// peer sent is in [`Failed::Io`].)
+    Untaken(Untaken),
+}
+
+/// A row that a scan gave at the wrong place, as of a column of the type `text` in PostgreSQL, which has another order without `COLLATE "C"`.
+#[derive(Debug, Clone, PartialEq, Eq)]
+pub struct OutOfOrder {
+    /// The key of the row.
+    pub key: Vec<u8>,
+    /// The key right before it, which isn't below it; or `None` if the key isn't in the range that was asked for.
+    pub before: Option<Vec<u8>>,
+}
+
+impl OutOfOrder {
+    /// Checks a key of a scan of a range, after another one if there is one.
+    fn check(range: Range<'_>, before: Option<&[u8]>, key: &[u8]) -> Result<(), Self> {
+        match before.filter(|before| key <= *before) {
+            None if range.contains(key) => Ok(()),
+            before => Err(Self { key: key.to_vec(), before: before.map(<[u8]>::to_vec) }),
+        }
+    }
+}
+
+impl fmt::Display for OutOfOrder {
+    fn fmt(&self, f: &mut fmt::Formatter<'_>) -> fmt::Result {
+        let key = Shown(&self.key);
+        let order = "a text in PostgreSQL needs COLLATE \"C\"";
+        match self.before.as_deref() {
+            Some(before) if before == self.key => {
+                let rule = "a key has one row, and where a scan goes on it begins after the last key";
+                write!(f, "a scan gave the key {key} twice: {rule}")
+            }
+            Some(before) => {
+                write!(f, "a scan gave {key} after {}, which don't ascend by their bytes: {order}", Shown(before))
+            }
+            None => write!(f, "a scan gave {key}, which isn't in the range by the order of bytes: {order}"),
+        }
+    }
+}
+
+impl Error for OutOfOrder {}
+
+/// A key in an error.
+struct Shown<'a>(&'a [u8]);
+
+impl fmt::Display for Shown<'_> {
+    fn fmt(&self, f: &mut fmt::Formatter<'_>) -> fmt::Result {
+        const MOST: usize = 100;
+        let (shown, rest) = self.0.split_at(self.0.len().min(MOST));
+        write!(f, "\"{}\"{}", shown.escape_ascii(), if rest.is_empty() { "" } else { ".." })
+    }
 }
 
 impl<E> From<io::Error> for Failed<E> {
@@ -648,12 +696,25 @@ impl<E> From<Fault> for Failed<E> {
     }
 }
 
+impl<E> From<OutOfOrder> for Failed<E> {
+    fn from(out: OutOfOrder) -> Self {
+        Self::NotAscending(out)
+    }
+}
+
+impl<E> From<Untaken> for Failed<E> {
+    fn from(untaken: Untaken) -> Self {
+        Self::Untaken(untaken)
+    }
+}
+
 impl<E: Into<Box<dyn Error + Send + Sync>>> From<Failed<E>> for io::Error {
     fn from(failed: Failed<E>) -> Self {
         match failed {
             Failed::Io(error) => error,
             Failed::Rows(error) => Self::other(error),
-            Failed::NotAscending => Self::other(NotAscending),
+            Failed::NotAscending(out) => Self::other(out),
+            Failed::Untaken(untaken) => untaken.into(),
         }
     }
 }
@@ -663,7 +724,8 @@ impl<E: fmt::Display> fmt::Display for Failed<E> {
         match self {
             Self::Io(error) => error.fmt(f),
             Self::Rows(error) => error.fmt(f),
-            Self::NotAscending => NotAscending.fmt(f),
+            Self::NotAscending(out) => out.fmt(f),
+            Self::Untaken(untaken) => untaken.fmt(f),
         }
     }
 }
@@ -673,7 +735,7 @@ impl<E: Error + 'static> Error for Failed<E> {
         match self {
             Self::Io(error) => error.source(),
             Self::Rows(error) => error.source(),
-            Self::NotAscending => None,
+            Self::NotAscending(_) | Self::Untaken(_) => None,
         }
     }
 }
@@ -717,34 +779,34 @@ fn look_up_keys<R: Rows + ?Sized>(keys: &Keys, rows: &mut R) -> Result<Found, Fa
 fn look_up_ranges<R: Rows + ?Sized>(ranges: &Ranges, rows: &mut R) -> Result<Found, Failed<R::Error>> {
     let mut found = ranges.found();
     for range in ranges.iter() {
-        if !look_up_range(range, rows, &mut found)? {
+        if !scan(range, rows, |key, value| found.row(range, key, value))? {
             break;
         }
     }
     Ok(found)
 }
 
-/// Looks up the rows in a range, and says whether others are needed.
-fn look_up_range<R: Rows + ?Sized>(
+/// Gives the rows in a range one by one until no more are wanted, and says whether more are. [`Failed::NotAscending`] if one isn't in the range, or not
+/// above the one before.
+fn scan<R: Rows + ?Sized>(
     range: Range<'_>,
     rows: &mut R,
-    found: &mut Found,
+    mut give: impl FnMut(&[u8], &[u8]) -> bool,
 ) -> Result<bool, Failed<R::Error>> {
-    let (mut goes_on, mut is_first, mut in_order) = (true, true, true);
-    let mut give = |key: &[u8], value: &[u8]| {
+    let (mut goes_on, mut checked, mut before) = (true, Ok(()), None::<Vec<u8>>);
+    let mut give_in_order = |key: &[u8], value: &[u8]| {
         if goes_on {
-            in_order = range.contains(key) && (is_first || found.last_key() < key);
-            is_first = false;
-            goes_on = in_order && found.row(range, key, value);
+            checked = OutOfOrder::check(range, before.as_deref(), key);
+            goes_on = checked.is_ok() && give(key, value);
+            let before = before.get_or_insert_with(Vec::new);
+            before.clear();
+            before.extend_from_slice(key);
         }
         goes_on
     };
-    rows.rows_in(range, &mut give).map_err(Failed::Rows)?;
-    if in_order {
-        Ok(goes_on)
-    } else {
-        Err(Failed::NotAscending)
-    }
+    rows.rows_in(range, &mut give_in_order).map_err(Failed::Rows)?;
+    checked?;
+    Ok(goes_on)
 }
 
 /// Takes the reply to the question that was asked last by [`SyncTree::ask`] or by this call. At the end it joins the rows that came, and sets the
@@ -800,6 +862,8 @@ pub fn catch_up_within<R: Rows + ?Sized>(
 
 /// Answers a peer that catches up, until it says that it is done or ends, and returns how many questions it was answered. A reply has some 16 MiB
 /// of rows at most, or one row that has more.
+///
+/// It gets no receipt, and returns the same if the peer joined the rows or hung up before it did.
 ///
 /// [`Failed::Io`] with an error of the connection as it is; with `UnexpectedEof` if the peer ends within a message; and with `InvalidData` if
 /// it sends what is no question or has other settings, or more than the limits: the peer is sent the refusal first, if it is still there.

@@ -2,16 +2,16 @@
 //! tests/store_peers has the store `mst` as the peer.
 mod common;
 
-use common::{draws, framed, Peer};
+use common::{draws, framed, key_behind, Peer};
 use merkle_search_tree::{
     builder::{Builder, PageFormat},
     digest::siphash::SipHasher,
     register::{
         answer, catch_up, catch_up_by, catch_up_within, entries_of, hasher_of, latest, now, serve, serve_by, take,
-        Entry, Give, Range, Register, RegisterTree, Registers, Untaken, MOST_TEXT,
+        Entry, Give, Part, Range, Register, RegisterTree, Registers, Untaken, MOST_TEXT,
     },
     replica::{Fault, Limits, Step, REFUSAL},
-    sync::{Answer, Next},
+    sync::{Answer, Failed, Next, OutOfOrder},
     Malformed, MerkleSearchTree,
 };
 use std::{
@@ -100,7 +100,7 @@ fn theirs() -> Table {
 
 fn side_under(hash_key: &str, rows: &Table) -> Side {
     let (mut tree, mut rows) = (RegisterTree::new(&hasher_of(hash_key).unwrap()), rows.clone());
-    let Ok(()) = tree.load(&mut rows);
+    tree.load(&mut rows).unwrap();
     (tree, rows)
 }
 
@@ -214,6 +214,7 @@ fn order() {
     sorted.sort();
     assert_eq!(sorted, ascending);
     assert!(ascending.is_sorted_by(|one, other| one < other));
+    assert_eq!(ascending[..7].iter().map(Register::kind).collect::<Vec<_>>(), [0, 0, 1, 1, 1, 2, 2]);
 }
 
 #[test]
@@ -303,7 +304,7 @@ fn catch_ups_by_calls_that_read_no_rows() {
         };
         for (key, register) in left.1.join(entries_of(&came, latest()).unwrap()).unwrap_or_else(|never| match never {})
         {
-            left.0.set(&key, &register);
+            left.0.set(&key, &register).unwrap();
         }
         assert_eq!(left.1, joined(&tables[0], &tables[1]));
         assert_eq!(left.0.root_hash(), side(&left.1).0.root_hash());
@@ -368,7 +369,7 @@ fn a_catch_up_in_the_place_of_another() {
             if locked == 3 {
                 let (tree, rows) = &mut *side;
                 if is_loaded {
-                    let Ok(()) = tree.load(rows);
+                    tree.load(rows).unwrap();
                 }
                 tree.ask().unwrap();
             }
@@ -384,7 +385,7 @@ fn writes() {
     let (mut tree, mut rows) = side(&ours());
     for (key, value) in [("ant", None), ("dog", Some(b"\xff".to_vec()))] {
         let write = Register::over(rows.get(key), now(), "bob", value);
-        tree.set(key, &write);
+        tree.set(key, &write).unwrap();
         rows.insert(key.into(), write);
     }
     assert_eq!(tree.root_hash(), side(&rows).0.root_hash());
@@ -431,23 +432,132 @@ fn a_peer_that_asks_for_a_delta() {
     assert_eq!(peer.heard, framed(&[&hex(REPLIES[0])[..], &REFUSAL, &last]));
 }
 
+/// Entries that no side takes, whatever its clock says, and why not.
+fn untaken() -> [(String, Register, Untaken); 4] {
+    let too_long = |key: &str, part| Untaken::TooLong { key: key.into(), part };
+    let long = "k".repeat(MOST_TEXT + 1);
+    [
+        (long.clone(), register(1, "w", None), too_long(&long, Part::Key)),
+        ("k".into(), register(1, &"w".repeat(MOST_TEXT + 1), None), too_long("k", Part::Writer)),
+        ("k".into(), register(1, "w", Some(&[b'v'; MOST_TEXT + 1])), too_long("k", Part::Value)),
+        ("k".into(), register(1 << 63, "w", None), Untaken::TooLate { key: "k".into(), time: 1 << 63 }),
+    ]
+}
+
 #[test]
 fn entries_that_are_not_taken() {
-    let entries = [
-        ("k".repeat(MOST_TEXT + 1), register(1, "w", None)),
-        ("k".into(), register(1, &"w".repeat(MOST_TEXT + 1), None)),
-        ("k".into(), register(1, "w", Some(&[b'v'; MOST_TEXT + 1]))),
-        ("k".into(), register(1 << 63, "w", None)),
+    for (key, register, untaken) in untaken() {
+        // A peer with two rows: their number and the root, and both.
+        let mut last = Vec::new();
+        let rows = [("ant", &ours()["ant"]), (&key[..], &register)]
+            .map(|(key, register)| [key_behind(&mut last, key.as_bytes()), register.to_bytes()].concat());
+        let replies =
+            [hex("01 81 02 01 bbefd75681059d8a56c3b0cdc2b67183"), [hex("01 82 00 02"), rows.concat()].concat()];
+        let (mut empty, mut asked) = (side(&Table::new()), 0);
+        let error = by_steps(&mut empty, |_| {
+            asked += 1;
+            replies[asked - 1].clone()
+        });
+        let error = error.unwrap_err();
+        assert_eq!((asked, error.kind(), fault_of(&error)), (2, ErrorKind::InvalidData, None));
+        assert!(untaken_of(&error) == Some(&untaken));
+        assert!(empty.1.is_empty() && empty.0.is_empty());
+    }
+}
+
+#[test]
+fn rows_that_are_not_taken() {
+    for (key, register, untaken) in untaken() {
+        let (mut tree, mut rows) = side(&ours());
+        let root = tree.root_hash();
+        assert!(register.check(&key).as_ref() == Err(&untaken) && tree.set(&key, &register).as_ref() == Err(&untaken));
+        let is_named = |failed: Failed<Infallible>| matches!(failed, Failed::Untaken(found) if found == untaken);
+        rows.insert(key.clone(), register.clone());
+        assert!(is_named(tree.load(&mut rows).unwrap_err()));
+        assert_eq!(tree.root_hash(), root);
+        // Another program wrote it, and the tree isn't told: by its range, and by its key.
+        let by_range = hex("01 05 01 00 00");
+        let by_key = [hex("01 04 01"), key_behind(&mut Vec::new(), key.as_bytes())].concat();
+        for question in [by_range, by_key] {
+            assert!(is_named(answer(&mut tree, &mut rows, &question).unwrap_err()));
+            let mut peer = Peer::saying(&[question]);
+            assert!(is_named(serve(&mut tree, &mut rows, &mut peer).unwrap_err()));
+            assert!(peer.heard.is_empty());
+        }
+        // A join returns it.
+        let mut joins = Joining(key, register);
+        assert!(is_named(catch_up(&mut tree, &mut joins, &mut Peer::saying(&REPLIES.map(hex))).unwrap_err()));
+        assert_eq!(tree.root_hash(), root);
+    }
+    let (key, writer) = ("k".repeat(MOST_TEXT), "w".repeat(MOST_TEXT));
+    let longest = register(u64::MAX >> 1, &writer, Some(&[b'v'; MOST_TEXT]));
+    assert_eq!((longest.check(&key), side(&Table::from([(key, longest)])).0.len()), (Ok(()), 1));
+}
+
+/// Rows that can't be read, of which each join returns this one.
+struct Joining(String, Register);
+
+impl Registers for Joining {
+    type Error = Infallible;
+
+    fn register(&mut self, _key: &str) -> Result<Option<Register>, Infallible> {
+        Ok(None)
+    }
+
+    fn registers_in(&mut self, _range: Range<'_>, _give: &mut Give<'_>) -> Result<(), Infallible> {
+        Ok(())
+    }
+
+    fn join(&mut self, _came: Vec<Entry>) -> Result<Vec<Entry>, Infallible> {
+        Ok(vec![(self.0.clone(), self.1.clone())])
+    }
+}
+
+#[test]
+fn what_untaken_entries_say() {
+    let says = [
+        "its key has more than 1048576 bytes",
+        "its writer has more than 1048576 bytes",
+        "its value has more than 1048576 bytes",
+        "its time, 9223372036854775808, is too late",
     ];
-    for (at, (key, register)) in entries.into_iter().enumerate() {
-        let mut peers = theirs();
-        peers.insert(key.clone(), register.clone());
-        let (mut ours_now, mut peer) = (side(&ours()), side(&peers));
-        let error = by_steps(&mut ours_now, |question| reply_of(&mut peer, question)).unwrap_err();
-        let untaken = if at < 3 { Untaken::TooLong } else { Untaken::TooLate { key, time: register.time } };
-        assert_eq!((error.kind(), untaken_of(&error)), (ErrorKind::InvalidData, Some(&untaken)));
-        assert_eq!(ours_now.1, ours());
-        assert_eq!(ours_now.0.root_hash(), side(&ours()).0.root_hash());
+    for ((_, _, untaken), says) in untaken().into_iter().zip(says) {
+        let text = untaken.to_string();
+        assert!(text.starts_with("the entry at \"k") && text.ends_with(says) && text.len() < 120, "{text}");
+    }
+}
+
+/// Rows of which a scan gives these keys.
+struct Disordered([&'static str; 2]);
+
+impl Registers for Disordered {
+    type Error = Infallible;
+
+    fn register(&mut self, _key: &str) -> Result<Option<Register>, Infallible> {
+        Ok(None)
+    }
+
+    fn registers_in(&mut self, _range: Range<'_>, give: &mut Give<'_>) -> Result<(), Infallible> {
+        for key in self.0 {
+            give(key, &ours()["ant"]);
+        }
+        Ok(())
+    }
+
+    fn join(&mut self, _came: Vec<Entry>) -> Result<Vec<Entry>, Infallible> {
+        Ok(Vec::new())
+    }
+}
+
+#[test]
+fn rows_that_dont_ascend() {
+    for keys in [["b", "B"], ["b", "b"]] {
+        let ((mut tree, _), mut rows) = (side(&ours()), Disordered(keys));
+        let wanted = OutOfOrder { key: keys[1].into(), before: Some(b"b".to_vec()) };
+        let is_named = |failed: Failed<Infallible>| matches!(failed, Failed::NotAscending(out) if out == wanted);
+        assert!(is_named(tree.load(&mut rows).unwrap_err()));
+        assert!(is_named(answer(&mut tree, &mut rows, &hex("01 05 01 00 00")).unwrap_err()));
+        assert_eq!(tree.root_hash(), side(&ours()).0.root_hash());
     }
 }
 
@@ -480,15 +590,16 @@ fn keys_that_are_no_texts() {
         assert_eq!(fault_of(&error), Some(&Fault::Malformed));
         assert_eq!(peer.heard, framed(&[REFUSAL]));
     }
-    let replies = ["01 81  01 01 bbefd75681059d8a56c3b0cdc2b67183", "01 85  01 02 01ff 00 00 00  01"].map(hex);
-    let mut ours = side(&Table::new());
-    let mut asked = 0;
-    let error = by_steps(&mut ours, |_| {
-        asked += 1;
-        replies[asked - 1].clone()
-    });
-    assert_eq!((asked, fault_of(&error.unwrap_err())), (2, Some(&Fault::Malformed)));
-    assert!(ours.1.is_empty());
+    for (row, is_text) in [("01 82 00 01 02 01ff 00 00 00", false), ("01 82 00 01 02 017f 00 00 00", true)] {
+        let replies = ["01 81 01 01 bbefd75681059d8a56c3b0cdc2b67183", row].map(hex);
+        let (mut ours, mut asked) = (side(&Table::new()), 0);
+        let came = by_steps(&mut ours, |_| {
+            asked += 1;
+            replies[asked - 1].clone()
+        });
+        assert_eq!((asked, came.is_ok(), ours.1.len()), (2, is_text, usize::from(is_text)));
+        assert!(came.map_or_else(|error| fault_of(&error) == Some(&Fault::Malformed), |came| came == 1));
+    }
 }
 
 #[test]

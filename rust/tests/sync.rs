@@ -1,12 +1,15 @@
 //! Rows that are elsewhere: the tree of their digests, questions about rows, steps without rows at hand, and rows that fail.
 mod common;
 
-use common::{assert_has, by_steps, drawn, draws, every, joined, lacked, model, of, Model, Peer, Side, Store};
+use common::{
+    assert_has, by_steps, count, drawn, draws, every, joined, key_behind, lacked, model, of, Model, Peer, Side, Store,
+};
 use merkle_search_tree::{
     builder::{Builder, PageFormat},
     digest::siphash::SipHasher,
+    register::{Part, Untaken},
     replica::{Fault, Replica},
-    sync::{answer, catch_up, serve, Answer, Came, Failed, Give, Next, Range, Row, Rows, SyncTree},
+    sync::{answer, catch_up, serve, Answer, Came, Failed, Give, Next, OutOfOrder, Range, Row, Rows, SyncTree},
     MerkleSearchTree,
 };
 use std::{
@@ -73,7 +76,8 @@ fn a_load_takes_the_place_of_the_tree() {
     assert_eq!((tree.root_hash(), tree.len()), (Replica::from_iter(&rows).root_hash(), 150));
     assert!(matches!(tree.take(&question), Err(Fault::NotAsking)));
     let before = tree.root_hash();
-    assert_eq!(tree.load(&mut Failing { rows: every(3), well: 0, commits: false }), Err("no database"));
+    let mut failing = Failing { rows: every(3), well: 0, commits: false };
+    assert!(matches!(tree.load(&mut failing), Err(Failed::Rows("no database"))));
     assert_eq!(tree.root_hash(), before);
     tree.load(&mut Failing { rows: every(3), well: 1, commits: false }).unwrap();
     assert_eq!(tree.root_hash(), Replica::from_iter(&every(3)).root_hash());
@@ -130,28 +134,6 @@ fn replies_end_and_no_more_rows_are_read_than_they_take() {
             rows.read
         );
     }
-}
-
-/// A number of a message, and a key after the one before it in a run (docs/WIRE.md).
-fn count(number: usize) -> Vec<u8> {
-    let (low, rest) = (number as u8 & 127, number >> 7);
-    if rest == 0 {
-        vec![low]
-    } else {
-        [vec![low | 128], count(rest)].concat()
-    }
-}
-
-fn key_behind(last: &mut Vec<u8>, key: &[u8]) -> Vec<u8> {
-    let whole = [&count(key.len())[..], key].concat();
-    let kept = last.iter().zip(&whole).take_while(|(one, other)| one == other).count();
-    let more = whole.len() - kept;
-    *last = whole[..whole.len().min(255)].to_vec();
-    let front = match (kept, more) {
-        (0..15, 0..16) => vec![(16 * kept + more) as u8],
-        _ => [vec![240], count(kept), count(more)].concat(),
-    };
-    [&front[..], &whole[kept..]].concat()
 }
 
 type Gap = [Option<Vec<u8>>; 2];
@@ -452,48 +434,70 @@ fn look_ups_that_fail() {
     }
 }
 
-/// Rows whose ranges come in another order, or with a row of another range.
-struct Disordered(Model, bool);
+/// Rows of which a scan gives these keys, whatever it is asked for.
+struct Disordered([&'static str; 2]);
 
 impl Rows for Disordered {
     type Error = Infallible;
 
-    fn value(&mut self, key: &[u8]) -> Result<Option<Vec<u8>>, Infallible> {
-        self.0.value(key)
+    fn value(&mut self, _key: &[u8]) -> Result<Option<Vec<u8>>, Infallible> {
+        Ok(None)
     }
 
-    fn rows_in(&mut self, range: Range<'_>, give: &mut Give<'_>) -> Result<(), Infallible> {
-        let rows = self.0.range::<[u8], _>(range);
-        if self.1 {
-            for (key, value) in rows.rev() {
-                give(key, value);
-            }
-        } else {
-            for (key, value) in rows {
-                give(key, value);
-            }
-            give(b"\xff", b"another");
+    fn rows_in(&mut self, _range: Range<'_>, give: &mut Give<'_>) -> Result<(), Infallible> {
+        for key in self.0 {
+            give(key.as_bytes(), b"1");
         }
         Ok(())
     }
 
-    fn join(&mut self, came: &Came) -> Result<Vec<Row>, Infallible> {
-        self.0.join(came)
+    fn join(&mut self, _came: &Came) -> Result<Vec<Row>, Infallible> {
+        Ok(Vec::new())
+    }
+}
+
+/// The keys that a call found out of order, and what it says.
+fn disorder<T, E>(made: Result<T, Failed<E>>) -> (OutOfOrder, String) {
+    match made {
+        Err(Failed::NotAscending(out)) => (out.clone(), out.to_string()),
+        _ => panic!("the rows are in order"),
     }
 }
 
 #[test]
 fn rows_that_dont_ascend_or_lie_elsewhere() {
-    let question = asks_for_gaps(&[[None, Some(b"2".to_vec())]]);
-    for is_reversed in [true, false] {
-        let mut rows = Disordered(every(2), is_reversed);
-        let mut tree = SyncTree::from_iter(&rows.0);
-        let failed = answer(&mut tree, &mut rows, &question).unwrap_err();
-        assert!(matches!(failed, Failed::NotAscending));
+    let question = asks_for_gaps(&[[None, Some(b"c".to_vec())]]);
+    let below_c = Range { first: b"", end: Some(b"c") };
+    for (keys, before, says) in [
+        (["b", "a"], Some("b"), ["\"a\" after \"b\"", "COLLATE"]),
+        (["b", "b"], Some("b"), ["\"b\" twice", "a scan goes on"]),
+        (["a", "d"], None, ["\"d\", which isn't in the range", "COLLATE"]),
+    ] {
+        let (mut tree, mut rows) = (SyncTree::from_iter(&every(2)), Disordered(keys));
+        let root = tree.root_hash();
+        let mut found = vec![disorder(answer(&mut tree, &mut rows, &question))];
         let mut peer = Peer::saying(&[&question]);
-        assert!(matches!(serve(&mut tree, &mut rows, &mut peer), Err(Failed::NotAscending)));
+        found.push(disorder(serve(&mut tree, &mut rows, &mut peer)));
         assert!(peer.heard.is_empty());
+        if before.is_some() {
+            found.push(disorder(tree.load(&mut rows)));
+            found.push(disorder(tree.verify(&mut rows)));
+        }
+        assert_eq!((tree.root_hash(), tree.len()), (root, 150));
+        found.push(disorder(tree.rescan(&mut rows, below_c)));
+        for (out, text) in found {
+            let before = before.map(|key| key.as_bytes().to_vec());
+            assert_eq!(out, OutOfOrder { key: keys[1].into(), before });
+            assert!(says.iter().all(|part| text.contains(part)), "{text}");
+        }
     }
+}
+
+#[test]
+fn long_keys_in_errors() {
+    let out = OutOfOrder { key: vec![b'k'; 5000], before: Some(b"\xff".to_vec()) };
+    let text = out.to_string();
+    assert!(text.contains("k\".. after \"\\xff\"") && text.len() < 300, "{text}");
 }
 
 #[test]
@@ -522,10 +526,16 @@ fn failures_are_errors() {
     let failed = Failed::Rows("no database");
     assert_eq!(failed.to_string(), "no database");
     assert_eq!(io::Error::from(failed).to_string(), "no database");
-    let failed = Failed::<io::Error>::NotAscending;
-    let text = failed.to_string();
-    assert!(failed.source().is_none() && !text.is_empty());
-    assert_eq!(io::Error::from(failed).to_string(), text);
+    let out = OutOfOrder { key: b"a".to_vec(), before: Some(b"b".to_vec()) };
+    let untaken = Untaken::TooLong { key: "a".into(), part: Part::Writer };
+    for (failed, kind) in
+        [(Failed::<io::Error>::NotAscending(out), ErrorKind::Other), (Failed::Untaken(untaken), ErrorKind::InvalidData)]
+    {
+        let text = failed.to_string();
+        assert!(failed.source().is_none() && !text.is_empty());
+        let error = io::Error::from(failed);
+        assert_eq!((error.kind(), error.to_string()), (kind, text));
+    }
     let failed: Box<dyn Error + Send + Sync> = Box::new(Failed::Rows(io::Error::other("no disk")));
     assert_eq!(failed.to_string(), "no disk");
 }

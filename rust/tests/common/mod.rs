@@ -331,6 +331,29 @@ pub fn framed<M: AsRef<[u8]>>(messages: &[M]) -> Vec<u8> {
     messages.iter().flat_map(|message| frame(message.as_ref())).collect()
 }
 
+/// A number of a message (docs/WIRE.md).
+pub fn count(number: usize) -> Vec<u8> {
+    let (low, rest) = (number as u8 & 127, number >> 7);
+    if rest == 0 {
+        vec![low]
+    } else {
+        [vec![low | 128], count(rest)].concat()
+    }
+}
+
+/// A key of a message, after the one before it in a run.
+pub fn key_behind(last: &mut Vec<u8>, key: &[u8]) -> Vec<u8> {
+    let whole = [&count(key.len())[..], key].concat();
+    let kept = last.iter().zip(&whole).take_while(|(one, other)| one == other).count();
+    let more = whole.len() - kept;
+    *last = whole[..whole.len().min(255)].to_vec();
+    let front = match (kept, more) {
+        (0..15, 0..16) => vec![(16 * kept + more) as u8],
+        _ => [vec![240], count(kept), count(more)].concat(),
+    };
+    [&front[..], &whole[kept..]].concat()
+}
+
 /// A peer that sends given bytes, and keeps what it is sent.
 pub struct Peer {
     sends: Cursor<Vec<u8>>,
