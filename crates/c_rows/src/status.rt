@@ -10,7 +10,7 @@ pub const OTHER_SETTINGS: u32 = 6;
 /// The peer refused what was asked.
 pub const REFUSED: u32 = 7;
 
-/// The status of a catch-up that ended early.
+/// The status of a catch-up that ended early: `MEMORY`, `REFUSED` where the peer refused what was asked, and else `MALFORMED`.
 pub fn status_of(error: &SessionError) -> u32
     ensures early { (result ≡ 1) ⊎ (result ≡ 2) ⊎ (result ≡ 7) }
     ensures status { result ≡ early_status error.now }

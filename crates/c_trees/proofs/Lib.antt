@@ -1,4 +1,3 @@
-pub mod Bytes
 pub mod Lists
 pub mod Loads
 pub mod Pages

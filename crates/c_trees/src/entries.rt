@@ -128,7 +128,8 @@ fn spot_of(plain: bool, hashed: bool, start: usize, first: &[u8], last: &[u8]) -
 /// there the whole list is read once to see that it is one.
 ///
 /// `DONE`; `MALFORMED` where a mark and a number don't stand in front, where `at` is 0 and the whole is no list, or where `at` is within the list and no
-/// entry of the mark's kind begins there; `ABSENT` after the last entry; `ARGUMENT` where `at` is beyond the end.
+/// entry of the mark's kind begins there; `ABSENT` after the last entry; `ARGUMENT` where `at` is beyond the end. Where it isn't `DONE`, `at` and `spot` are
+/// as before. It takes no memory.
 pub fn next(rows: bool, list: &[u8], at: &mut usize, spot: &mut MstSpot) -> u32
     ensures entry { result ≡ 0 → IsEntryAt rows list.now at.old at.new spot.new }
     ensures front { result ≢ 2 → HasFront rows list.now }

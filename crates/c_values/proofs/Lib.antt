@@ -1,3 +1,4 @@
 pub mod Lists
 pub mod Moved
+pub mod Pairs
 pub mod Rows

@@ -8,7 +8,7 @@ use Rattle.merkle_tree_theory.specs.Settings.{Settings}
 use Rattle.main_theorem.specs.After.{FreeUpdatesAreAccepted, IsDefinedBy, rows_after, root_hash_under}
 use Rattle.merkle_replica.specs.Agreeing.{AreEqual}
 use Rattle.main_theorem.specs.Course.{AreExchanged}
-use Rattle.merkle_replica.specs.Laws.{Laws}
+use Rattle.merkle_replica.proofs.SideLaws.{laws_of}
 use Rattle.main_theorem.proofs.Courses.{apart_stay}
 use Rattle.main_theorem.proofs.Lives.{join_equal, equal_itself}
 use Rattle.main_theorem.proofs.Roots.{is_defined, root_last, settings_stay}
@@ -16,15 +16,7 @@ use Rattle.main_theorem.proofs.theorem.converge.Goals as goal
 
 pub returns-clause-before : goal.returns-clause-before
 returns-clause-before g c = rw g.met.H.RowHasher.laws_are (
-    let laws : Laws g.row.K.Denot g.row.V.Denot g.row.H.Denot =
-    record {
-      cmp = g.K.Ord.cmp;
-      bytes_of = g.K.KeyBytes.bytes_of;
-      key_digest = g.H.Hasher-1.digest_of;
-      eq = g.V.PartialEq.eq;
-      join = g.V.Join.join_of;
-      value_digest = g.H.Hasher-2.digest_of;
-    } in
+    let laws = laws_of g.K.Ord.cmp g.K.KeyBytes.bytes_of g.H.Hasher-1.digest_of g.V.PartialEq.eq g.V.Join.join_of g.H.Hasher-2.digest_of in
     let cloned = c.in-Ok.ensures in
     let hasher = c.requires.hashers _ _ cloned.hasher in
     let other : Settings g.row.H.Denot = c.in-Ok.other in
@@ -38,15 +30,7 @@ returns-clause-before g c = rw g.met.H.RowHasher.laws_are (
 
 pub returns-clause-rows : goal.returns-clause-rows
 returns-clause-rows g c = rw g.met.H.RowHasher.laws_are (λ apart.
-    let laws : Laws g.row.K.Denot g.row.V.Denot g.row.H.Denot =
-    record {
-      cmp = g.K.Ord.cmp;
-      bytes_of = g.K.KeyBytes.bytes_of;
-      key_digest = g.H.Hasher-1.digest_of;
-      eq = g.V.PartialEq.eq;
-      join = g.V.Join.join_of;
-      value_digest = g.H.Hasher-2.digest_of;
-    } in
+    let laws = laws_of g.K.Ord.cmp g.K.KeyBytes.bytes_of g.H.Hasher-1.digest_of g.V.PartialEq.eq g.V.Join.join_of g.H.Hasher-2.digest_of in
     let a = c.in-Ok-after.a in
     let b = c.in-Ok-after-2.b in
     let (met, made, _) = (rw g.met.H.RowHasher.laws_are at c.in_ok-exchanged.ensures.converges) in
@@ -59,15 +43,7 @@ returns-clause-rows g c = rw g.met.H.RowHasher.laws_are (λ apart.
 
 pub returns-clause-a_defined : goal.returns-clause-a_defined
 returns-clause-a_defined g c = rw g.met.H.RowHasher.laws_are (λ m h.
-    let laws : Laws g.row.K.Denot g.row.V.Denot g.row.H.Denot =
-    record {
-      cmp = g.K.Ord.cmp;
-      bytes_of = g.K.KeyBytes.bytes_of;
-      key_digest = g.H.Hasher-1.digest_of;
-      eq = g.V.PartialEq.eq;
-      join = g.V.Join.join_of;
-      value_digest = g.H.Hasher-2.digest_of;
-    } in
+    let laws = laws_of g.K.Ord.cmp g.K.KeyBytes.bytes_of g.H.Hasher-1.digest_of g.V.PartialEq.eq g.V.Join.join_of g.H.Hasher-2.digest_of in
     let one = c.a_map_has_one_tree.ensures in
     let s = c.args.builder in
     let come = c.come_together.new.a in
@@ -81,15 +57,7 @@ returns-clause-a_defined g c = rw g.met.H.RowHasher.laws_are (λ m h.
 
 pub returns-clause-b_defined : goal.returns-clause-b_defined
 returns-clause-b_defined g c = rw g.met.H.RowHasher.laws_are (λ m h.
-    let laws : Laws g.row.K.Denot g.row.V.Denot g.row.H.Denot =
-    record {
-      cmp = g.K.Ord.cmp;
-      bytes_of = g.K.KeyBytes.bytes_of;
-      key_digest = g.H.Hasher-1.digest_of;
-      eq = g.V.PartialEq.eq;
-      join = g.V.Join.join_of;
-      value_digest = g.H.Hasher-2.digest_of;
-    } in
+    let laws = laws_of g.K.Ord.cmp g.K.KeyBytes.bytes_of g.H.Hasher-1.digest_of g.V.PartialEq.eq g.V.Join.join_of g.H.Hasher-2.digest_of in
     let one = c.a_map_has_one_tree.ensures in
     let s = c.args.builder in
     let come = c.come_together.new.b in
@@ -105,15 +73,7 @@ returns-clause-b_defined g c = rw g.met.H.RowHasher.laws_are (λ m h.
 
 pub returns-clause-converges : goal.returns-clause-converges
 returns-clause-converges g c = rw g.met.H.RowHasher.laws_are (
-    let laws : Laws g.row.K.Denot g.row.V.Denot g.row.H.Denot =
-    record {
-      cmp = g.K.Ord.cmp;
-      bytes_of = g.K.KeyBytes.bytes_of;
-      key_digest = g.H.Hasher-1.digest_of;
-      eq = g.V.PartialEq.eq;
-      join = g.V.Join.join_of;
-      value_digest = g.H.Hasher-2.digest_of;
-    } in
+    let laws = laws_of g.K.Ord.cmp g.K.KeyBytes.bytes_of g.H.Hasher-1.digest_of g.V.PartialEq.eq g.V.Join.join_of g.H.Hasher-2.digest_of in
     let o = g.met.K.Ord.total in
     let e = g.met.V.Eq.laws in
     let j = g.met.V.Join.joining in

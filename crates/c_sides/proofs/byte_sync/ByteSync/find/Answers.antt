@@ -3,7 +3,7 @@ use Rattle.std.specs.Option.{option_map}
 use Rattle.key_order.specs.Map.{get}
 use Rattle.merkle_tree_theory.specs.State.{map_of}
 use Rattle.c_values.specs.Keys.{bytes_cmp, pairs_of}
-use Rattle.c_sides.proofs.Pairs.{pairs_get}
+use Rattle.c_values.proofs.Pairs.{pairs_get}
 use Rattle.c_sides.proofs.byte_sync.ByteSync.find.Goals as goal
 
 pub returns-in-None : goal.returns-in-None

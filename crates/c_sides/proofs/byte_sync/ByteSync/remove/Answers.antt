@@ -2,7 +2,7 @@ use Rattle.std.proofs.Common.{refl, sym, ap, ◌∙◌, map}
 use Rattle.c_values.specs.Keys.{bytes_cmp, by_key, pairs_of}
 use Rattle.key_order.specs.Map.{del, has_key}
 use Rattle.merkle_tree_theory.specs.State.{map_of}
-use Rattle.c_sides.proofs.Pairs.{pairs_del, absent, present}
+use Rattle.c_values.proofs.Pairs.{pairs_del, absent, present}
 use Rattle.c_sides.proofs.byte_sync.ByteSync.remove.Goals as goal
 
 pub returns-in-None-clause-done : goal.returns-in-None-clause-done

@@ -3,7 +3,7 @@ use Rattle.c_values.specs.Keys.{bytes_cmp, by_key, pairs_of}
 use Rattle.key_order.specs.Map.{set}
 use Rattle.merkle_digest.specs.SipHash.{siphash128}
 use Rattle.merkle_tree_theory.specs.State.{map_of}
-use Rattle.c_sides.proofs.Pairs.{pairs_set}
+use Rattle.c_values.proofs.Pairs.{pairs_set}
 use Rattle.c_sides.proofs.byte_sync.ByteSync.set.Goals as goal
 
 pub returns-in-Ok-clause-done : goal.returns-in-Ok-clause-done

@@ -3,7 +3,7 @@ use Rattle.key_order.specs.Map.{set}
 use Rattle.merkle_tree_theory.specs.State.{map_of}
 use Rattle.c_trees.specs.Trees.{SetDropsFew}
 use Rattle.c_values.specs.Keys.{bytes_cmp, by_key, key_cmp, pairs_of}
-use Rattle.c_trees.proofs.Bytes.{rows_set}
+use Rattle.c_values.proofs.Pairs.{pairs_set}
 use Rattle.c_trees.proofs.byte_tree.ByteTree.upsert_digest.Goals.{in-Ok, in-Err}
 use Rattle.c_trees.proofs.byte_tree.ByteTree.upsert_digest.Goals as goal
 
@@ -16,7 +16,7 @@ returns-clause-done c =
           let is_set = subst (λ r. OnOk r (map_of c.upsert.new.self ≡ set key_cmp (map_of old) key digest)) w.in-Ok.is c.upsert.ensures.set in
           rw w.result-is
           (record {
-            rows = ap (map by_key) is_set ∙ rows_set (map_of old) key digest ∙ ap (λ k. set bytes_cmp (pairs_of old) k digest) same;
+            rows = ap (map by_key) is_set ∙ pairs_set (map_of old) key digest ∙ ap (λ k. set bytes_cmp (pairs_of old) k digest) same;
             settings = c.upsert.ensures.settings;
           })
       | in-Err w ↦ rw w.result-is tt
