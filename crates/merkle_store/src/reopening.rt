@@ -8,8 +8,8 @@ use sqlite_trees::store::Store as Trees;
 use std::alloc::Global;
 use store_table::log::Log;
 
-/// The log, once its file is closed and opened again by `close_files` and `open` of `store_file`, as `mst` does from one command to the next: its
-/// tables have the rows that they had. There is none where the file can't be closed or opened, or memory runs out.
+/// The log, once its file is closed and opened again by `close_files` and `open_trusted` of `store_file`, as `mst` does from one command to the next:
+/// its tables have the rows that they had. There is none where the file can't be closed or opened, or memory runs out.
 pub fn reopen<D: Disk + Drop>(alloc: Global, log: Log<FileStore<D>>) -> Option<Log<FileStore<D>>>
     ensures { IfSome result (Reopens ⟦<FileStore<D> as Trees>⟧ log) }
 {

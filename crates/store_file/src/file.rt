@@ -285,8 +285,8 @@ pub fn close<D: Disk + Drop>(store: FileStore<D>) -> Result<(), StoreError>
     Ok(())
 }
 
-/// Closes a store and opens its files again, as two runs of a program do, one after the other. It has what was committed, and takes the time
-/// of `close_files` and of `open`.
+/// Closes a store and opens its files again by [`open_trusted`], as two runs of `mst` do, one after the other: a closed file has no log to recover. It
+/// has what was committed, and takes the time of `close_files` and of `open_trusted`.
 ///
 /// ```rust crates/store_file_tests/src/files.rt
 /// let mut second = reopen(alloc, first)?;
@@ -295,7 +295,7 @@ pub fn close<D: Disk + Drop>(store: FileStore<D>) -> Result<(), StoreError>
 ///
 /// # Errors
 ///
-/// [`ReopenFault::Close`] and [`ReopenFault::Open`], with the errors of `close_files` and `open`.
+/// [`ReopenFault::Close`] and [`ReopenFault::Open`], with the errors of `close_files` and `open_trusted`.
 pub fn reopen<D: Disk + Drop>(
     alloc: Global,
     store: FileStore<D>,
@@ -305,5 +305,5 @@ pub fn reopen<D: Disk + Drop>(
     ensures honest { IfOk result (λ again. IsTrue (view again).is_clean → IsTrue (view store).is_clean × IsTrue (view store).is_open) }
 {
     let files = close_files(store)?;
-    Ok(open(alloc, files)?)
+    Ok(open_trusted(alloc, files)?)
 }
