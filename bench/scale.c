@@ -2,30 +2,16 @@
  * line for each, a name and a number. bench/scale compiles and runs it. Times are those of the processor, in nanoseconds a key or, where the
  * name says so, a call; memory is in bytes a key, as the allocator counts it. The keys are those of c/bench.c. */
 #define _DEFAULT_SOURCE
+#include "timing.h"
 #include <malloc.h>
-#include <stdint.h>
-#include <stdio.h>
-#include <stdlib.h>
-#include <string.h>
 #include <sys/resource.h>
-#include <time.h>
 
-#include "mst.h"
-
-enum { KEY_LEN = 17, VALUE_LEN = 8, ROW_LEN = 8 + KEY_LEN + 8 + VALUE_LEN, DIGEST_LEN = 8 + KEY_LEN + 16, CALLS = 10000 };
+enum { DIGEST_LEN = 8 + KEY_LEN + 16, CALLS = 10000 };
 
 static const uint8_t ONE[VALUE_LEN] = {1}, TWO[VALUE_LEN] = {2};
 
-static void want(int holds, const char *what) {
-    if (holds) return;
-    fprintf(stderr, "scale.c: %s\n", what);
-    exit(1);
-}
-
 static double now(void) {
-    struct timespec time;
-    want(!clock_gettime(CLOCK_PROCESS_CPUTIME_ID, &time), "the clock failed");
-    return (double)time.tv_sec * 1e9 + (double)time.tv_nsec;
+    return time_of(CLOCK_PROCESS_CPUTIME_ID);
 }
 
 static void show(const char *name, double value) {
@@ -39,16 +25,8 @@ static double held(void) {
     return (double)info.uordblks + (double)info.hblkhd;
 }
 
-/* The key of the next state of xorshift64: `k` and its 16 hex digits. */
-static void next_key(uint64_t *state, uint8_t key[KEY_LEN + 1]) {
-    *state ^= *state << 13;
-    *state ^= *state >> 7;
-    *state ^= *state << 17;
-    snprintf((char *)key, KEY_LEN + 1, "k%016llx", (unsigned long long)*state);
-}
-
-static void upsert(struct mst_tree *tree, const uint8_t *key, const uint8_t value[VALUE_LEN]) {
-    want(mst_tree_upsert(tree, key, KEY_LEN, value, VALUE_LEN) == MST_DONE, "an upsert was refused");
+static void upsert(struct mst_tree *tree, const char *key, const uint8_t value[VALUE_LEN]) {
+    want(mst_tree_upsert(tree, (const uint8_t *)key, KEY_LEN, value, VALUE_LEN) == MST_DONE, "an upsert was refused");
 }
 
 static void hash(struct mst_tree *tree) {
@@ -58,7 +36,7 @@ static void hash(struct mst_tree *tree) {
 
 /* Upserts of the keys of so many states. */
 static void fill(struct mst_tree *tree, size_t count, uint64_t state) {
-    uint8_t key[KEY_LEN + 1];
+    char key[KEY_LEN + 1];
     size_t at;
     for (at = 0; at < count; at++) {
         next_key(&state, key);
@@ -67,7 +45,7 @@ static void fill(struct mst_tree *tree, size_t count, uint64_t state) {
 }
 
 static void keys_alone(size_t count, uint64_t state) {
-    uint8_t key[KEY_LEN + 1];
+    char key[KEY_LEN + 1];
     size_t at;
     for (at = 0; at < count; at++) next_key(&state, key);
 }
@@ -83,7 +61,7 @@ static uint8_t *page_ranges(struct mst_tree *tree, size_t *len) {
 
 /* Calls on a hashed tree: of new keys that are put and taken out again, each with the root hash behind it. */
 static void show_calls(struct mst_tree *tree, uint64_t seed) {
-    uint8_t key[KEY_LEN + 1];
+    char key[KEY_LEN + 1];
     uint64_t state = seed;
     double put = 0, hashed = 0, taken = 0, start;
     size_t at;
@@ -99,7 +77,7 @@ static void show_calls(struct mst_tree *tree, uint64_t seed) {
     for (state = seed, at = 0; at < CALLS; at++) {
         next_key(&state, key);
         start = now();
-        want(mst_tree_remove(tree, key, KEY_LEN) == MST_DONE, "no such key");
+        want(mst_tree_remove(tree, (const uint8_t *)key, KEY_LEN) == MST_DONE, "no such key");
         taken += now() - start;
         hash(tree);
     }
@@ -111,7 +89,8 @@ static void show_calls(struct mst_tree *tree, uint64_t seed) {
 /* The page ranges of the tree, compared with themselves and with those after one value is another; the keys in the ranges asked for
  * then aren't counted. */
 static void show_lists(struct mst_tree *tree, double each, uint64_t state) {
-    uint8_t key[KEY_LEN + 1], out[1 << 12];
+    char key[KEY_LEN + 1];
+    uint8_t out[1 << 12];
     size_t len, other_len, needed;
     uint8_t *list, *other;
     double start;

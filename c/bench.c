@@ -2,26 +2,10 @@
  * nanoseconds a key: the best of several rounds, for 100, 1,000, 10,000 and 100,000 keys or for those of the arguments. Keys and rounds
  * are those of the program mst_bench. */
 #define _POSIX_C_SOURCE 199309L
-#include <stdint.h>
-#include <stdio.h>
-#include <stdlib.h>
-#include <string.h>
-#include <time.h>
-
-#include "mst.h"
-
-enum { KEY_LEN = 17, VALUE_LEN = 8, ROW_LEN = 8 + KEY_LEN + 8 + VALUE_LEN };
-
-static void want(int holds, const char *what) {
-    if (holds) return;
-    fprintf(stderr, "bench.c: %s\n", what);
-    exit(1);
-}
+#include "timing.h"
 
 static double now(void) {
-    struct timespec time;
-    want(!clock_gettime(CLOCK_MONOTONIC, &time), "the clock failed");
-    return (double)time.tv_sec * 1e9 + (double)time.tv_nsec;
+    return time_of(CLOCK_MONOTONIC);
 }
 
 static void note(double *best, double start) {
@@ -29,18 +13,13 @@ static void note(double *best, double start) {
     if (taken < *best) *best = taken;
 }
 
-/* The keys of the first states of xorshift64 after the seed: `k` and the 16 hex digits of each. */
+/* The keys of the first states after the seed. */
 static char (*keys_of(size_t count))[KEY_LEN + 1] {
     char(*keys)[KEY_LEN + 1] = malloc(count * sizeof *keys);
     uint64_t state = UINT64_C(88172645463325252);
     size_t at;
     want(keys != NULL, "memory was refused");
-    for (at = 0; at < count; at++) {
-        state ^= state << 13;
-        state ^= state >> 7;
-        state ^= state << 17;
-        snprintf(keys[at], sizeof *keys, "k%016llx", (unsigned long long)state);
-    }
+    for (at = 0; at < count; at++) next_key(&state, keys[at]);
     return keys;
 }
 

@@ -1,12 +1,11 @@
 /* The calls of mst.h: each tests its pointers for null and its lengths, and then makes the proved call, which can't. */
 #include "mst.h"
+#include "checks.h"
 
-struct bytes16 { uint8_t bytes[16]; };
 struct spot { size_t first_at, first_len, last_at, last_len, digest_at; };
 
-/* What the proved calls take these types to be; a compiler refuses an array of less than no items. */
+/* The proved calls take these types to be so. */
 typedef char handle_is_one_pointer[sizeof(struct mst_tree) == sizeof(void *) ? 1 : -1];
-typedef char size_is_8_bytes[sizeof(size_t) == 8 ? 1 : -1];
 typedef char spot_is_5_sizes[sizeof(struct spot) == 5 * sizeof(size_t) ? 1 : -1];
 
 uint32_t mst_proved_tree_new(struct mst_tree *, const struct bytes16 *, uint8_t, uint8_t, uint8_t);
@@ -27,18 +26,6 @@ uint32_t mst_proved_tree_pages(struct mst_tree *, uint8_t *, size_t, size_t *);
 uint32_t mst_proved_diff(const uint8_t *, size_t, const uint8_t *, size_t, uint8_t *, size_t, size_t *);
 uint32_t mst_proved_ranges_next(const uint8_t *, size_t, size_t *, struct spot *);
 uint32_t mst_proved_rows_next(const uint8_t *, size_t, size_t *, struct spot *);
-
-/* What a slice of no bytes points to. */
-static uint8_t nothing[1];
-
-/* Refuses a null pointer to bytes, and a length that no memory has; a null pointer to no bytes gives way to one that isn't null. */
-#define BYTES(pointer, length) \
-    do { \
-        if ((length) > PTRDIFF_MAX || ((length) && !(pointer))) return MST_BAD_ARGUMENT; \
-        if (!(length)) (pointer) = nothing; \
-    } while (0)
-#define POINTER(pointer) \
-    do { if (!(pointer)) return MST_BAD_ARGUMENT; } while (0)
 
 const char *mst_version(void) {
     return MST_VERSION;

@@ -1,11 +1,9 @@
 /* The calls of mst_replica.h: each tests its pointers for null and its lengths, and then makes the proved call, which can't. */
 #include "mst_replica.h"
+#include "checks.h"
 
-struct bytes16 { uint8_t bytes[16]; };
-
-/* What the proved calls take these types to be; a compiler refuses an array of less than no items. */
+/* The proved calls take a handle to be so. */
 typedef char handle_is_one_pointer[sizeof(struct mst_replica) == sizeof(void *) ? 1 : -1];
-typedef char size_is_8_bytes[sizeof(size_t) == 8 ? 1 : -1];
 
 uint32_t mst_proved_replica_new(struct mst_replica *, const struct bytes16 *, uint8_t, uint8_t);
 void mst_proved_replica_free(struct mst_replica *);
@@ -18,18 +16,6 @@ uint32_t mst_proved_replica_message(struct mst_replica *, uint8_t *, size_t, siz
 uint32_t mst_proved_replica_answer(struct mst_replica *, const uint8_t *, size_t, size_t *);
 uint32_t mst_proved_replica_ask(struct mst_replica *, size_t *);
 uint32_t mst_proved_replica_take(struct mst_replica *, const uint8_t *, size_t, size_t *, size_t *);
-
-/* What a slice of no bytes points to. */
-static uint8_t nothing[1];
-
-/* Refuses a null pointer to bytes, and a length that no memory has; a null pointer to no bytes gives way to one that isn't null. */
-#define BYTES(pointer, length) \
-    do { \
-        if ((length) > PTRDIFF_MAX || ((length) && !(pointer))) return MST_BAD_ARGUMENT; \
-        if (!(length)) (pointer) = nothing; \
-    } while (0)
-#define POINTER(pointer) \
-    do { if (!(pointer)) return MST_BAD_ARGUMENT; } while (0)
 
 int mst_replica_new_with(struct mst_replica *out, const uint8_t key[16], uint8_t level_base, uint8_t page_format) {
     POINTER(out);

@@ -3,10 +3,9 @@
 #define _DEFAULT_SOURCE
 #include "mst_replica.h"
 #include "testing.h"
+#include "testing_sessions.h"
 
 /* ---- rows, and bytes of the calls */
-static const uint8_t KEY[16] = "a key of SipHash";
-
 static int put(struct mst_replica *replica, unsigned key, unsigned value) {
     char name[16], text[16];
     int name_len = snprintf(name, sizeof name, "k%05u", key), text_len = snprintf(text, sizeof text, "v%u", value);
@@ -49,11 +48,7 @@ static int same_rows(struct mst_replica *a, struct mst_replica *b) {
     return is;
 }
 
-/* One catch-up of `a` with `b`: how many rows were joined, and how many bytes and messages went both ways. */
-struct cost {
-    size_t joined, bytes, messages;
-};
-
+/* One catch-up of `a` with `b`. */
 static struct cost catch_up(struct mst_replica *a, struct mst_replica *b) {
     struct cost cost = {0};
     size_t len, reply_len;
@@ -311,10 +306,6 @@ static void first_replies(void) {
 }
 
 /* ---- sessions that are altered or cut */
-enum { MOST = 64 };
-static struct bytes questions[MOST], replies[MOST];
-static size_t rounds;
-
 static void asking(struct mst_replica *a) {
     unsigned i;
     WANT(mst_replica_new_with(a, KEY, 2, 2) == MST_DONE);
@@ -348,30 +339,37 @@ static int ascends(struct mst_replica *replica) {
     return is;
 }
 
-static long refusals_seen;
+/* A side, and the rows that it has whatever it is sent. */
+struct attacked {
+    struct mst_replica *side;
+    struct bytes rows;
+};
 
-static void hostile_question(struct mst_replica *b, struct bytes rows, const uint8_t *bytes, size_t len) {
+static void hostile_question(void *with, size_t round, struct bytes question) {
+    struct attacked *b = with;
     size_t reply_len = 0;
     struct bytes reply;
-    int status = mst_replica_answer(b, before_a_wall(bytes, len), len, &reply_len);
+    int status = mst_replica_answer(b->side, before_a_wall(question.at, question.len), question.len, &reply_len);
+    (void)round;
     WANT(status == MST_DONE || status == MST_MALFORMED || status == MST_OTHER_SETTINGS);
-    reply = message_of(b, reply_len);
+    reply = message_of(b->side, reply_len);
     WANT(status == MST_DONE ? reply.len > 2 || reply.at[1] != 255 : reply.len == 2 && reply.at[1] == 255);
-    WANT(has_rows(b, rows));
+    WANT(has_rows(b->side, b->rows));
     refusals_seen += status != MST_DONE;
     __real_free(reply.at);
 }
 
-static void hostile_reply(size_t round, struct bytes rows, const uint8_t *bytes, size_t len) {
+static void hostile_reply(void *with, size_t round, struct bytes reply) {
+    struct bytes *rows = with;
     struct mst_replica a = MST_NO_REPLICA;
     size_t message_len = 99, joined = 88, now;
     int status;
     asking_at(&a, round);
-    status = mst_replica_take(&a, before_a_wall(bytes, len), len, &message_len, &joined);
+    status = mst_replica_take(&a, before_a_wall(reply.at, reply.len), reply.len, &message_len, &joined);
     WANT(status == MST_DONE || status == MST_MALFORMED || status == MST_REFUSED);
     if (status != MST_DONE) WANT(message_len == 99 && joined == 88);
-    if (status != MST_DONE) WANT(mst_replica_take(&a, bytes, len, &message_len, &joined) == MST_ABSENT);
-    if (status != MST_DONE || message_len) WANT(has_rows(&a, rows));
+    if (status != MST_DONE) WANT(mst_replica_take(&a, reply.at, reply.len, &message_len, &joined) == MST_ABSENT);
+    if (status != MST_DONE || message_len) WANT(has_rows(&a, *rows));
     else WANT(mst_replica_len(&a, &now) == MST_DONE && now >= 53 && ascends(&a));
     refusals_seen += status != MST_DONE;
     mst_replica_free(&a);
@@ -379,12 +377,14 @@ static void hostile_reply(size_t round, struct bytes rows, const uint8_t *bytes,
 
 static void hostile(void) {
     struct mst_replica a = MST_NO_REPLICA, b = MST_NO_REPLICA;
-    struct bytes own, rows;
-    size_t len, reply_len, joined, round, i, total = 0;
+    struct attacked attacked;
+    struct bytes own;
+    size_t len, reply_len, joined;
     asking(&a);
     answering(&b);
     own = rows_of(&a);
-    rows = rows_of(&b);
+    attacked.side = &b;
+    attacked.rows = rows_of(&b);
     WANT(mst_replica_ask(&a, &len) == MST_DONE);
     for (rounds = 0; len; rounds++) {
         WANT(rounds < MOST);
@@ -394,38 +394,14 @@ static void hostile(void) {
         WANT(mst_replica_take(&a, replies[rounds].at, reply_len, &len, &joined) == MST_DONE);
     }
     WANT(joined && rounds > 2);
-    for (round = 0; round < rounds; round++) {
-        struct bytes question = questions[round], reply = replies[round];
-        for (i = 0; i < question.len; i++) {
-            static const uint8_t turns[] = {1, 128, 255};
-            size_t turn;
-            hostile_question(&b, rows, question.at, i);
-            for (turn = 0; turn < sizeof turns; turn++) {
-                question.at[i] ^= turns[turn];
-                hostile_question(&b, rows, question.at, question.len);
-                question.at[i] ^= turns[turn];
-            }
-        }
-        for (i = 0; i < reply.len; i++) {
-            hostile_reply(round, own, reply.at, i);
-            reply.at[i] ^= 85;
-            hostile_reply(round, own, reply.at, reply.len);
-            reply.at[i] ^= 85;
-        }
-        total += question.len + reply.len;
-    }
-    printf("%zu messages of %zu bytes, each byte altered and each cut: refused %ld times\n", 2 * rounds, total, refusals_seen);
-    for (round = 0; round < rounds; round++) {
-        __real_free(questions[round].at);
-        __real_free(replies[round].at);
-    }
+    alter_session(hostile_question, &attacked, hostile_reply, &own);
     __real_free(own.at);
-    __real_free(rows.at);
+    __real_free(attacked.rows.at);
     mst_replica_free(&a);
     mst_replica_free(&b);
 }
 
-/* ---- refusals: each call is made again until it isn't refused, and a catch-up that is over for want of memory from its start */
+/* ---- refusals: each call is made again until it isn't refused, and a catch-up that is over because memory ran out from its start */
 static size_t catch_up_again(struct mst_replica *a, struct mst_replica *b, int *refused) {
     static uint8_t question[1 << 12], reply[1 << 12];
     size_t len, reply_len, joined = 0, before = 0;
@@ -475,29 +451,6 @@ static struct bytes a_life(int *refused) {
     return rows;
 }
 
-static void refusals(void) {
-    struct bytes rows, again;
-    int refused = 0;
-    long all, at, spared = 0;
-    made = 0;
-    rows = a_life(&refused);
-    all = made;
-    WANT(!refused);
-    for (at = 1; at <= all; at++) {
-        int here = 0;
-        made = 0;
-        refused_at = at;
-        again = a_life(&here);
-        WANT(here <= 1 && same(rows, again));
-        spared += !here;
-        __real_free(again.at);
-    }
-    refused_at = 0;
-    WANT(spared * 20 < all);
-    __real_free(rows.at);
-    printf("%ld requests for memory, each refused in turn; the calls do without %ld of them\n", all, spared);
-}
-
 int main(void) {
     values();
     trees();
@@ -507,6 +460,6 @@ int main(void) {
     settings();
     first_replies();
     hostile();
-    refusals();
+    refuse_each(a_life);
     return 0;
 }

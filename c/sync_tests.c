@@ -3,8 +3,7 @@
 #define _DEFAULT_SOURCE
 #include "mst_sync.h"
 #include "testing.h"
-
-static const uint8_t KEY[16] = "a key of SipHash";
+#include "testing_sessions.h"
 
 /* ---- a side, or a replica, and the rows of either: the number at each key, or 0 where there is no row */
 enum { KEYS = 20000, FEW = 1 << 12 };
@@ -193,11 +192,7 @@ static int take(struct peer *peer, struct bytes reply, size_t *len, size_t *join
         : mst_replica_take(&peer->replica, reply.at, reply.len, len, joined);
 }
 
-struct cost {
-    size_t joined, bytes, messages;
-};
-
-/* One catch-up of `a` with `b`: how many rows were joined, and how many bytes and messages went both ways. */
+/* One catch-up of `a` with `b`. */
 static struct cost catch_up(struct peer *a, struct peer *b) {
     struct cost cost = {0};
     size_t len, reply_len;
@@ -388,10 +383,6 @@ static void settings(void) {
 }
 
 /* ---- sessions that are altered or cut, and lists of rows that are */
-enum { MOST = 64 };
-static struct bytes questions[MOST], replies[MOST];
-static size_t rounds;
-
 static void asking(struct peer *a) {
     unsigned i;
     start(a, 1, 60, 2, 2);
@@ -405,15 +396,15 @@ static void answering(struct peer *b) {
     for (i = 0; i < 60; i++) WANT(put(b, i, i + 1) == MST_DONE);
 }
 
-static long refusals_seen;
-
 /* A hostile question: its answer is a message or a list of needs, and with all rows handed in a message. */
-static void hostile_question(struct peer *b, struct bytes question) {
+static void hostile_question(void *with, size_t round, struct bytes question) {
+    struct peer *b = with;
     uint8_t roots[2][16];
     size_t len = 77, list_len = 99;
     const uint8_t *asked = before_a_wall(question.at, question.len);
     struct bytes reply;
     int status;
+    (void)round;
     root_of(b, roots[0]);
     status = mst_sync_answer(&b->side, asked, question.len, &len, &list_len);
     WANT(status == MST_DONE || status == MST_MALFORMED || status == MST_OTHER_SETTINGS || status == MST_NEEDS_ROWS);
@@ -433,11 +424,12 @@ static void hostile_question(struct peer *b, struct bytes question) {
     __real_free(reply.at);
 }
 
-static void hostile_reply(size_t round, struct bytes reply) {
+static void hostile_reply(void *with, size_t round, struct bytes reply) {
     struct peer a;
     uint8_t roots[2][16];
     size_t len, message_len = 99, list_len = 88, i;
     int status;
+    (void)with;
     asking(&a);
     root_of(&a, roots[0]);
     WANT(ask(&a, &len) == MST_DONE);
@@ -460,7 +452,9 @@ static void hostile_reply(size_t round, struct bytes reply) {
 }
 
 /* A list of rows that is cut or altered is taken as what it says, or refused; whatever it says, the question is answered of it or not at all. */
-static void hostile_rows(struct peer *b, struct bytes question, struct bytes rows) {
+static void hostile_rows(void *with, size_t round, struct bytes rows) {
+    struct peer *b = with;
+    struct bytes question = questions[round];
     size_t len = 99;
     int status = mst_sync_answer_with(&b->side, question.at, question.len, before_a_wall(rows.at, rows.len), rows.len, 1, 1 << 26, &len);
     WANT(status == MST_DONE ? len != 99 : status == MST_BAD_ARGUMENT && len == 99);
@@ -468,7 +462,8 @@ static void hostile_rows(struct peer *b, struct bytes question, struct bytes row
 }
 
 static void hostile_lists(struct peer *b) {
-    size_t round, i, lists = 0;
+    static const uint8_t masks[] = {85};
+    size_t round, lists = 0;
     for (round = 0; round < rounds; round++) {
         struct bytes needs, rows, question = questions[round];
         size_t len, list_len;
@@ -479,18 +474,13 @@ static void hostile_lists(struct peer *b) {
         }
         needs = list_of(&b->side, list_len);
         rows = looked_up(b, needs, (size_t)-1);
-        for (i = 0; i < rows.len; i++) {
-            struct bytes cut = {rows.at, i};
-            hostile_rows(b, question, cut);
-            rows.at[i] ^= 85;
-            hostile_rows(b, question, rows);
-            rows.at[i] ^= 85;
-        }
+        alter(rows, masks, sizeof masks, hostile_rows, b, round);
         lists++;
         __real_free(needs.at);
         __real_free(rows.at);
     }
     WANT(lists);
+    printf("the rows that %zu questions need, each byte altered and each cut\n", lists);
 }
 
 /* Whether a message has a value in it. */
@@ -503,7 +493,7 @@ static int tells_value(struct bytes message) {
 
 static void hostile(void) {
     struct peer a, b;
-    size_t len, reply_len, list_len, round, i, total = 0;
+    size_t len, reply_len, list_len;
     asking(&a);
     answering(&b);
     WANT(ask(&a, &len) == MST_DONE);
@@ -516,34 +506,8 @@ static void hostile(void) {
         WANT(take(&a, replies[rounds], &len, &list_len) == MST_DONE);
     }
     WANT(join(&a, list_len) && same_root(&a, &b) && rounds > 2);
-    for (round = 0; round < rounds; round++) {
-        struct bytes question = questions[round], reply = replies[round];
-        for (i = 0; i < question.len; i++) {
-            static const uint8_t turns[] = {1, 128, 255};
-            struct bytes cut = {question.at, i};
-            size_t turn;
-            hostile_question(&b, cut);
-            for (turn = 0; turn < sizeof turns; turn++) {
-                question.at[i] ^= turns[turn];
-                hostile_question(&b, question);
-                question.at[i] ^= turns[turn];
-            }
-        }
-        for (i = 0; i < reply.len; i++) {
-            struct bytes cut = {reply.at, i};
-            hostile_reply(round, cut);
-            reply.at[i] ^= 85;
-            hostile_reply(round, reply);
-            reply.at[i] ^= 85;
-        }
-        total += question.len + reply.len;
-    }
     hostile_lists(&b);
-    printf("%zu messages of %zu bytes, and the rows that they need, each byte altered and each cut: refused %ld times\n", 2 * rounds, total, refusals_seen);
-    for (round = 0; round < rounds; round++) {
-        __real_free(questions[round].at);
-        __real_free(replies[round].at);
-    }
+    alter_session(hostile_question, &b, hostile_reply, NULL);
     end(&a);
     end(&b);
 }
@@ -623,29 +587,6 @@ static struct bytes a_life(int *refused) {
     return root;
 }
 
-static void refusals(void) {
-    struct bytes root, again;
-    int refused = 0;
-    long all, at, spared = 0;
-    made = 0;
-    root = a_life(&refused);
-    all = made;
-    WANT(!refused);
-    for (at = 1; at <= all; at++) {
-        int here = 0;
-        made = 0;
-        refused_at = at;
-        again = a_life(&here);
-        WANT(here <= 1 && same(root, again));
-        spared += !here;
-        __real_free(again.at);
-    }
-    refused_at = 0;
-    WANT(spared * 20 < all);
-    __real_free(root.at);
-    printf("%ld requests for memory, each refused in turn; the calls do without %ld of them\n", all, spared);
-}
-
 int main(void) {
     roots();
     syncs();
@@ -653,6 +594,6 @@ int main(void) {
     bad_arguments();
     settings();
     hostile();
-    refusals();
+    refuse_each(a_life);
     return 0;
 }
