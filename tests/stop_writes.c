@@ -3,25 +3,21 @@
    with STOP_LATER fail all later ones too. It writes at the end to STOP_COUNT how many such calls came. It is preloaded by
    tests/store_faults. */
 #define _GNU_SOURCE
-#include <dlfcn.h>
+#include "preload.h"
 #include <errno.h>
 #include <fcntl.h>
 #include <signal.h>
-#include <stdio.h>
-#include <stdlib.h>
 #include <string.h>
 #include <sys/stat.h>
 #include <sys/types.h>
 #include <unistd.h>
 
-static long calls, at, later;
 static const char *how = "";
 
 __attribute__((constructor)) static void begin(void) {
-    const char *number = getenv("STOP_AT"), *way = getenv("STOP_HOW");
-    at = number ? atol(number) : 0;
+    const char *way = getenv("STOP_HOW");
     how = way ? way : "";
-    later = getenv("STOP_LATER") != NULL;
+    read_number("STOP_AT", "STOP_LATER");
 }
 
 static int is_file(int file) {
@@ -44,31 +40,19 @@ static int turn(void) {
     return 2;
 }
 
-#define NEXT(name) __typeof__(&name) next = (__typeof__(&name))dlsym(RTLD_NEXT, #name)
 #define REFUSED (errno = is_full() ? ENOSPC : EIO, -1)
 #define AS_EVER(call) { __typeof__(call) done = call; if (t == 2) end_here(); return done; }
 
-ssize_t pwrite64(int file, const void *from, size_t size, off64_t place) {
-    NEXT(pwrite64);
-    int t = turn();
-    if (t == 1) return REFUSED;
-    if (t == 2 && !strcmp(how, "half")) size /= 2;
-    AS_EVER(next(file, from, size, place))
-}
-ssize_t pwrite(int file, const void *from, size_t size, off_t place) {
-    NEXT(pwrite);
-    int t = turn();
-    if (t == 1) return REFUSED;
-    if (t == 2 && !strcmp(how, "half")) size /= 2;
-    AS_EVER(next(file, from, size, place))
-}
-ssize_t write(int file, const void *from, size_t size) {
-    NEXT(write);
-    int t = is_file(file) ? turn() : 0;
-    if (t == 1) return REFUSED;
-    if (t == 2 && !strcmp(how, "half")) size /= 2;
-    AS_EVER(next(file, from, size))
-}
+/* A write of this many bytes, which is counted or not. */
+#define WRITE(is_counted, call) \
+    int t = (is_counted) ? turn() : 0; \
+    if (t == 1) return REFUSED; \
+    if (t == 2 && !strcmp(how, "half")) size /= 2; \
+    AS_EVER(call)
+
+ssize_t pwrite64(int file, const void *from, size_t size, off64_t place) { NEXT(pwrite64); WRITE(1, next(file, from, size, place)) }
+ssize_t pwrite(int file, const void *from, size_t size, off_t place) { NEXT(pwrite); WRITE(1, next(file, from, size, place)) }
+ssize_t write(int file, const void *from, size_t size) { NEXT(write); WRITE(is_file(file), next(file, from, size)) }
 int fsync(int file) { NEXT(fsync); int t = turn(); if (t == 1) return REFUSED; AS_EVER(next(file)) }
 int fdatasync(int file) { NEXT(fdatasync); int t = turn(); if (t == 1) return REFUSED; AS_EVER(next(file)) }
 int ftruncate(int file, off_t size) { NEXT(ftruncate); int t = turn(); if (t == 1) return REFUSED; AS_EVER(next(file, size)) }
@@ -76,13 +60,4 @@ int ftruncate64(int file, off64_t size) { NEXT(ftruncate64); int t = turn(); if 
 int unlink(const char *path) { NEXT(unlink); int t = turn(); if (t == 1) return REFUSED; AS_EVER(next(path)) }
 int unlinkat(int folder, const char *path, int flags) { NEXT(unlinkat); int t = turn(); if (t == 1) return REFUSED; AS_EVER(next(folder, path, flags)) }
 
-__attribute__((destructor)) static void end(void) {
-    const char *path = getenv("STOP_COUNT");
-    long made = calls;
-    at = 0;
-    FILE *file = path ? fopen(path, "w") : NULL;
-    if (file) {
-        fprintf(file, "%ld\n", made);
-        fclose(file);
-    }
-}
+__attribute__((destructor)) static void end(void) { write_count("STOP_COUNT"); }
