@@ -1,13 +1,16 @@
 """What the tests of catch-ups share: sides of each kind, drawn rows and their joins, catch-ups, and peers that send given bytes."""
 import asyncio
 import bisect
+import functools
 import importlib.util
 import os
 import socket
 import struct
+import sys
 import threading
+import unittest
 
-from mst import Replica, SyncTree
+from mst import MalformedError, Replica, SyncTree
 
 EXAMPLES = os.path.join(os.path.dirname(os.path.abspath(__file__)), "..", "examples")
 
@@ -124,6 +127,11 @@ def joined(left, right):
     return {key: max(left.get(key, b""), right.get(key, b"")) for key in sorted({*left, *right})}
 
 
+def all_joined(*tables):
+    """The rows that all come to hold."""
+    return functools.reduce(joined, tables, {})
+
+
 def lacked(left, right):
     """How many rows of the second the first hasn't."""
     return sum(left.get(key) != value for key, value in right.items())
@@ -140,6 +148,24 @@ def by_steps(asking, answer, **words):
             question = steps.send(reply)
     except StopIteration as end:
         return end.value, size
+
+
+def begun_again(asking, answer):
+    """How many rows came by a catch-up with a peer whose rows change in between: so it may tell a key twice, and the catch-up begins again."""
+    for _ in range(100):
+        try:
+            return by_steps(asking, answer)[0]
+        except MalformedError:
+            pass
+    raise AssertionError("the rows always change in between")
+
+
+class InTurns(unittest.TestCase):
+    """Tests of threads, which take turns as often as they can."""
+
+    def setUp(self):
+        self.addCleanup(sys.setswitchinterval, sys.getswitchinterval())
+        sys.setswitchinterval(1e-6)
 
 
 def in_threads(*calls):

@@ -33,10 +33,15 @@ def key_ranges(*ranges):
     return b"MSTk" + number(len(ranges)) + b"".join(string(bytes([key])) for span in ranges for key in span)
 
 
+def differences(name):
+    """The lines of a table: the page ranges of both sides, and the ranges to ask for."""
+    with open(os.path.join(TABLES, name), encoding="ascii") as file:
+        return [[part.strip() for part in line.split("|")] for line in file if not line.startswith("#")]
+
+
 class Differences(unittest.TestCase):
     def test_those_of_the_rust_crate(self):
-        with open(os.path.join(TABLES, "diffs.txt"), encoding="ascii") as file:
-            lines = [line.split("|") for line in file if not line.startswith("#")]
+        lines = differences("diffs.txt")
         self.assertEqual(len(lines), 117)
         for local, peer, answer in lines:
             asked = diff(page_ranges(local), page_ranges(peer))
@@ -44,20 +49,10 @@ class Differences(unittest.TestCase):
             self.assertEqual(KeyRanges(bytes(asked)), asked)
 
     def test_what_lies_outside_of_pages_that_both_have(self):
-        for local, peer, answer in [
-            ("", "", ""),
-            ("1-42:1", "", ""),
-            ("", "1-42:1", "1-42"),
-            ("", "7-7:1", "7-7"),
-            ("2-15:1 2-6:2 2-2:3 5-5:4 15-15:5", "2-15:1 2-6:2 2-2:3 5-5:4 15-15:5", ""),
-            ("2-15:1 2-6:2 2-2:3 5-5:4 15-15:5", "2-15:9 2-6:2 2-2:3 5-5:4 15-15:5", "6-15"),
-            ("1-90:1 10-20:2 30-40:3 80-90:4", "1-90:9 10-20:2 30-40:9 80-90:4", "1-10 20-80"),
-            ("1-9:1 3-3:2", "1-9:9 3-3:2", "1-9"),
-            ("5-9:1 1-3:2", "4-6:9 5-9:1 1-3:2", "4-5"),
-            ("1-3:2 2-9:3", "1-9:9 1-3:2 2-9:3", "3-9"),
-        ]:
+        lines = differences("unshared.txt")
+        self.assertEqual(len(lines), 10)
+        for local, peer, answer in lines:
             self.assertEqual(numbers(unshared(page_ranges(local), page_ranges(peer))), answer.split())
-
 
     def test_one_pull_each_way_outside_of_shared_pages_brings_all(self):
         def rows(skipped, changed):

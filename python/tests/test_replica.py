@@ -3,13 +3,12 @@ import copy
 import ctypes
 import pickle
 import random
-import sys
 import unittest
 
-from mst import MalformedError, Replica, Tree
+from mst import Replica, Tree
 from mst._library import ABSENT, library
 
-from .common import by_steps, drawn, in_threads, joined
+from .common import InTurns, all_joined, begun_again, by_steps, drawn, in_threads, joined
 
 
 class Rows(unittest.TestCase):
@@ -100,17 +99,10 @@ class CatchUps(unittest.TestCase):
         self.assertEqual(by_steps(ours, Replica({b"b": b"2"}).answer)[0], 1)
 
 
-class Threads(unittest.TestCase):
-    def setUp(self):
-        # threads take turns as often as they can
-        self.addCleanup(sys.setswitchinterval, sys.getswitchinterval())
-        sys.setswitchinterval(1e-6)
-
+class Threads(InTurns):
     def test_threads_on_one_replica(self):
         replica, peers = Replica(), [Replica((b"%d" % i, b"%d" % seed) for i in range(seed, 3000, 7)) for seed in range(4)]
-        wanted = {}
-        for rows in [*map(dict, peers), {b"%d" % i: b"9" for i in range(0, 3000, 11)}]:
-            wanted = joined(wanted, rows)
+        wanted = all_joined(*map(dict, peers), {b"%d" % i: b"9" for i in range(0, 3000, 11)})
 
         def fill():
             for i in range(0, 3000, 11):
@@ -118,15 +110,6 @@ class Threads(unittest.TestCase):
                 if i % 55 == 0:
                     keys = list(replica)
                     self.assertEqual(keys, sorted(keys))
-
-        def begun_again(asking, answer):
-            # a peer whose rows change in between may tell a key twice
-            for _ in range(100):
-                try:
-                    return by_steps(asking, answer)[0]
-                except MalformedError:
-                    pass
-            raise AssertionError("the rows always change in between")
 
         def asked(peer):
             return sum(begun_again(peer, replica.answer) for _ in range(20))

@@ -21,8 +21,8 @@ from mst import MalformedError, RefusedError, Replica, SyncTree, Tree, UnreadErr
 from mst._library import ABSENT, library
 from mst._sync_tree import _list, _look_up
 
-from .common import (EXAMPLES, PAIRS, Rows, Side, SqliteRows, both_ways, by_steps, drawn, in_sqlite, in_threads, joined, lacked, number,
-                     over_streams, pair, rows_of, said_by)
+from .common import (EXAMPLES, PAIRS, InTurns, Rows, Side, SqliteRows, all_joined, begun_again, both_ways, by_steps, drawn, in_sqlite, in_threads,
+                     joined, lacked, number, over_streams, pair, rows_of, said_by)
 
 
 def count(value):
@@ -709,17 +709,10 @@ class Streams(unittest.TestCase):
         self.assertEqual((self.both(ours, theirs)[0][0], rows_of(ours)), (1, {b"a": b"1", b"b": b"2"}))
 
 
-class Threads(unittest.TestCase):
-    def setUp(self):
-        # threads take turns as often as they can
-        self.addCleanup(sys.setswitchinterval, sys.getswitchinterval())
-        sys.setswitchinterval(1e-6)
-
+class Threads(InTurns):
     def test_threads_on_one_tree(self):
         hub, peers = in_sqlite(), [Replica((b"%d" % i, b"%d" % seed) for i in range(seed, 2000, 7)) for seed in range(4)]
-        wanted = {}
-        for rows in [*map(dict, peers), {b"%d" % i: b"9" for i in range(0, 2000, 11)}]:
-            wanted = joined(wanted, rows)
+        wanted = all_joined(*map(dict, peers), {b"%d" % i: b"9" for i in range(0, 2000, 11)})
 
         def write():
             for i in range(0, 2000, 22):
@@ -729,15 +722,6 @@ class Threads(unittest.TestCase):
             for i in range(11, 2000, 22):
                 hub.rows.join([(b"%d" % i, b"9")])
                 hub.tree.refresh(hub.rows, [b"%d" % i])
-
-        def begun_again(asking, answer):
-            # a peer whose rows change in between may tell a key twice
-            for _ in range(100):
-                try:
-                    return by_steps(asking, answer)[0]
-                except MalformedError:
-                    pass
-            raise AssertionError("the rows always change in between")
 
         def asks():
             return sum(begun_again(hub, peer.answer) for peer in peers)

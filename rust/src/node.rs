@@ -2,45 +2,19 @@
 use crate::{
     bytes::{seen_again, Key},
     digest::{Digest, ValueDigest},
-    list,
+    list::{self, keyed_list},
 };
-use std::{fmt, iter::FusedIterator, marker::PhantomData};
+use std::{fmt, marker::PhantomData};
 
-/// The keys that a tree had at one time, each with the digest of its value.
-pub struct Nodes<K> {
-    list: Vec<u8>,
-    key: PhantomData<fn() -> K>,
-}
-
-impl<K> Nodes<K> {
-    /// The nodes of a list of digests, as the library writes it.
-    pub(crate) fn of_list(list: Vec<u8>) -> Self {
-        Self { list, key: PhantomData }
-    }
-
-    /// How many keys there are.
-    pub fn len(&self) -> usize {
-        list::count(&self.list)
-    }
-
-    /// Whether there is none.
-    pub fn is_empty(&self) -> bool {
-        self.len() == 0
-    }
+keyed_list! {
+    /// The keys that a tree had at one time, each with the digest of its value.
+    Nodes of Node by NodeIter, "How many keys there are."
 }
 
 impl<K: Key> Nodes<K> {
     /// Goes over the keys in their order.
     pub fn iter(&self) -> NodeIter<'_, K> {
         NodeIter { rest: &self.list[list::FRONT..], left: self.len(), key: PhantomData }
-    }
-}
-
-impl<'a, K: Key> IntoIterator for &'a Nodes<K> {
-    type Item = Node<'a, K>;
-    type IntoIter = NodeIter<'a, K>;
-    fn into_iter(self) -> NodeIter<'a, K> {
-        self.iter()
     }
 }
 
@@ -94,14 +68,5 @@ impl<'a, K: Key> Iterator for NodeIter<'a, K> {
 
     fn size_hint(&self) -> (usize, Option<usize>) {
         (self.left, Some(self.left))
-    }
-}
-
-impl<K: Key> ExactSizeIterator for NodeIter<'_, K> {}
-impl<K: Key> FusedIterator for NodeIter<'_, K> {}
-
-impl<K> fmt::Debug for NodeIter<'_, K> {
-    fn fmt(&self, f: &mut fmt::Formatter<'_>) -> fmt::Result {
-        f.debug_struct("NodeIter").field("left", &self.left).finish_non_exhaustive()
     }
 }

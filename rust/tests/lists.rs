@@ -30,17 +30,23 @@ fn text<'a>(ranges: impl IntoIterator<Item = DiffRange<'a, Key>>) -> String {
     texts.join(" ")
 }
 
+/// The lines of a table: the page ranges of both sides, and the text of the ranges to ask for.
+fn differences(table: &str) -> impl Iterator<Item = ([Vec<OwnedPageRange<Key>>; 2], &str)> {
+    table.lines().filter(|line| !line.starts_with('#')).map(|line| {
+        let parts: Vec<_> = line.split('|').collect();
+        ([parts[0], parts[1]].map(page_ranges), parts[2].trim())
+    })
+}
+
 #[test]
 fn differences_are_those_of_the_crate() {
     let mut lines = 0;
-    for line in include_str!("diffs.txt").lines().filter(|line| !line.starts_with('#')) {
-        let parts: Vec<_> = line.split('|').collect();
-        let [local, peer] = [parts[0], parts[1]].map(page_ranges);
+    for ([local, peer], answer) in differences(include_str!("diffs.txt")) {
         let asked =
             diff(local.iter().map(OwnedPageRange::as_page_range), peer.iter().map(OwnedPageRange::as_page_range));
-        assert_eq!(text(asked), parts[2].trim(), "{line}");
+        assert_eq!(text(asked), answer, "line {lines}");
         let asked = diff_snapshots(&PageRangeSnapshot::from(local.clone()), &PageRangeSnapshot::from(peer.clone()));
-        assert_eq!(text(&asked), parts[2].trim(), "{line}");
+        assert_eq!(text(&asked), answer, "line {lines}");
         lines += 1;
     }
     assert_eq!(lines, 117);
@@ -213,30 +219,17 @@ fn altered_key_ranges_are_malformed_or_ascend() {
     assert!(lists > 500);
 }
 
-/// What `unshared` asks for of lists as those of diffs.txt.
 #[test]
 fn what_lies_outside_of_pages_that_both_have() {
-    for (local, peer, answer) in [
-        ("", "", ""),
-        ("1-42:1", "", ""),
-        ("", "1-42:1", "1-42"),
-        ("", "7-7:1", "7-7"),
-        ("2-15:1 2-6:2 2-2:3 5-5:4 15-15:5", "2-15:1 2-6:2 2-2:3 5-5:4 15-15:5", ""),
-        // the root page differs, and one page below it is in both: what is behind that page
-        ("2-15:1 2-6:2 2-2:3 5-5:4 15-15:5", "2-15:9 2-6:2 2-2:3 5-5:4 15-15:5", "6-15"),
-        // pages in the middle and at the end, and one with the same keys and another digest
-        ("1-90:1 10-20:2 30-40:3 80-90:4", "1-90:9 10-20:2 30-40:9 80-90:4", "1-10 20-80"),
-        // a page of one key is asked for with what is around it
-        ("1-9:1 3-3:2", "1-9:9 3-3:2", "1-9"),
-        // lists that no tree has
-        ("5-9:1 1-3:2", "4-6:9 5-9:1 1-3:2", "4-5"),
-        ("1-3:2 2-9:3", "1-9:9 1-3:2 2-9:3", "3-9"),
-    ] {
-        let [local, peer] = [local, peer].map(|list| PageRangeSnapshot::from(page_ranges(list)));
+    let mut lines = 0;
+    for (sides, answer) in differences(include_str!("unshared.txt")) {
+        let [local, peer] = sides.map(PageRangeSnapshot::from);
         let asked = unshared(&local, &peer);
         assert_eq!(text(&asked), answer);
         assert_eq!(KeyRanges::from_bytes(asked.as_bytes()), Ok(asked));
+        lines += 1;
     }
+    assert_eq!(lines, 10);
 }
 
 #[test]

@@ -1,8 +1,9 @@
 use crate::{
     bytes::{seen_again, Key},
-    list, sys, Malformed,
+    list::{keyed_list, sent_list},
+    sys, Malformed,
 };
-use std::{fmt, iter::FusedIterator, marker::PhantomData, ops::Bound};
+use std::{fmt, ops::Bound};
 
 /// A range of keys in which two trees may differ: both bounds are in it. It borrows them.
 pub struct DiffRange<'p, K: Key> {
@@ -58,56 +59,29 @@ impl<K: Key> fmt::Debug for DiffRange<'_, K> {
     }
 }
 
-/// Ranges of keys to ask a peer for, as the list that the peer can be sent: they ascend, and no two meet.
-///
-/// ```
-/// use merkle_search_tree::{diff::{diff_snapshots, KeyRanges}, MerkleSearchTree};
-/// use std::collections::BTreeMap;
-///
-/// let mut local = MerkleSearchTree::<String, u64>::default();
-/// let (mut peer, mut rows) = (MerkleSearchTree::<String, u64>::default(), BTreeMap::new());
-/// for (key, value) in [("apple", 1), ("melon", 2)] {
-///     peer.upsert(key.into(), &value);
-///     rows.insert(key.to_owned(), value);
-/// }
-/// let sent = diff_snapshots(&local.page_ranges(), &peer.page_ranges()).into_bytes();
-///
-/// // the peer
-/// let asked = KeyRanges::<String>::from_bytes(sent).unwrap();
-/// let found: Vec<_> = asked.iter().flat_map(|range| rows.range::<str, _>(range.bounds())).collect();
-/// assert_eq!(found.len(), 2);
-/// ```
-pub struct KeyRanges<K> {
-    list: Vec<u8>,
-    key: PhantomData<fn() -> K>,
+keyed_list! {
+    /// Ranges of keys to ask a peer for, as the list that the peer can be sent: they ascend, and no two meet.
+    ///
+    /// ```
+    /// use merkle_search_tree::{diff::{diff_snapshots, KeyRanges}, MerkleSearchTree};
+    /// use std::collections::BTreeMap;
+    ///
+    /// let mut local = MerkleSearchTree::<String, u64>::default();
+    /// let (mut peer, mut rows) = (MerkleSearchTree::<String, u64>::default(), BTreeMap::new());
+    /// for (key, value) in [("apple", 1), ("melon", 2)] {
+    ///     peer.upsert(key.into(), &value);
+    ///     rows.insert(key.to_owned(), value);
+    /// }
+    /// let sent = diff_snapshots(&local.page_ranges(), &peer.page_ranges()).into_bytes();
+    ///
+    /// // the peer
+    /// let asked = KeyRanges::<String>::from_bytes(sent).unwrap();
+    /// let found: Vec<_> = asked.iter().flat_map(|range| rows.range::<str, _>(range.bounds())).collect();
+    /// assert_eq!(found.len(), 2);
+    /// ```
+    KeyRanges of DiffRange by KeyRangeIter, "How many ranges there are."
 }
-
-impl<K> KeyRanges<K> {
-    /// The ranges of a list of key ranges that ascend and have keys of the type, as the library writes it.
-    pub(super) fn of_list(list: Vec<u8>) -> Self {
-        Self { list, key: PhantomData }
-    }
-
-    /// The list, to send to a peer. `mst.h` has it byte by byte.
-    pub fn as_bytes(&self) -> &[u8] {
-        &self.list
-    }
-
-    /// The same, by value.
-    pub fn into_bytes(self) -> Vec<u8> {
-        self.list
-    }
-
-    /// How many ranges there are.
-    pub fn len(&self) -> usize {
-        list::count(&self.list)
-    }
-
-    /// Whether there is none.
-    pub fn is_empty(&self) -> bool {
-        self.len() == 0
-    }
-}
+sent_list!(KeyRanges of DiffRange by KeyRangeIter, "Goes over the ranges.", "Goes over the ranges of a list of key ranges.");
 
 impl<K: Key> KeyRanges<K> {
     /// The list that a peer sent. Any bytes may be given: they are refused where they are no list of key ranges, or where a key in them is
@@ -130,67 +104,7 @@ impl<K: Key> KeyRanges<K> {
         Ok(Self::of_list(list))
     }
 
-    /// Goes over the ranges.
-    pub fn iter(&self) -> KeyRangeIter<'_, K> {
-        KeyRangeIter { list: &self.list, at: 0, left: self.len(), key: PhantomData }
-    }
-}
-
-impl<K> Clone for KeyRanges<K> {
-    fn clone(&self) -> Self {
-        Self::of_list(self.list.clone())
-    }
-}
-
-impl<K> PartialEq for KeyRanges<K> {
-    fn eq(&self, other: &Self) -> bool {
-        self.list == other.list
-    }
-}
-
-impl<K> Eq for KeyRanges<K> {}
-
-impl<K: Key> fmt::Debug for KeyRanges<K> {
-    fn fmt(&self, f: &mut fmt::Formatter<'_>) -> fmt::Result {
-        f.debug_list().entries(self).finish()
-    }
-}
-
-impl<'a, K: Key> IntoIterator for &'a KeyRanges<K> {
-    type Item = DiffRange<'a, K>;
-    type IntoIter = KeyRangeIter<'a, K>;
-    fn into_iter(self) -> KeyRangeIter<'a, K> {
-        self.iter()
-    }
-}
-
-/// Goes over the ranges of a list of key ranges.
-pub struct KeyRangeIter<'a, K> {
-    list: &'a [u8],
-    at: usize,
-    left: usize,
-    key: PhantomData<fn() -> K>,
-}
-
-impl<'a, K: Key> Iterator for KeyRangeIter<'a, K> {
-    type Item = DiffRange<'a, K>;
-
-    fn next(&mut self) -> Option<DiffRange<'a, K>> {
-        let (start, end, _) = sys::next_range(self.list, &mut self.at).expect("key ranges have a list")?;
-        self.left -= 1;
-        Some(DiffRange::new(seen_again::<K>(start), seen_again::<K>(end)))
-    }
-
-    fn size_hint(&self) -> (usize, Option<usize>) {
-        (self.left, Some(self.left))
-    }
-}
-
-impl<K: Key> ExactSizeIterator for KeyRangeIter<'_, K> {}
-impl<K: Key> FusedIterator for KeyRangeIter<'_, K> {}
-
-impl<K: Key> fmt::Debug for KeyRangeIter<'_, K> {
-    fn fmt(&self, f: &mut fmt::Formatter<'_>) -> fmt::Result {
-        f.debug_struct("KeyRangeIter").field("left", &self.left).finish_non_exhaustive()
+    fn item((start, end, _): sys::Entry<'_>) -> DiffRange<'_, K> {
+        DiffRange::new(seen_again::<K>(start), seen_again::<K>(end))
     }
 }

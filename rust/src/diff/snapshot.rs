@@ -1,53 +1,30 @@
 use super::{OwnedPageRange, PageRange};
-use crate::{bytes::Key, list, sys, Malformed};
-use std::{fmt, iter::FusedIterator, marker::PhantomData};
+use crate::{
+    bytes::Key,
+    list::{self, keyed_list, sent_list},
+    sys, Malformed,
+};
+use std::fmt;
 
 const MARK: &[u8; 4] = b"MSTp";
 
-/// The page ranges of a tree at one time, as the list that a peer can be sent.
-///
-/// ```
-/// use merkle_search_tree::{diff::PageRangeSnapshot, MerkleSearchTree};
-///
-/// let mut tree = MerkleSearchTree::<String, u64>::default();
-/// tree.upsert("kiwi".into(), &1);
-/// let sent = tree.page_ranges().into_bytes();
-///
-/// let came = PageRangeSnapshot::<String>::from_bytes(sent).unwrap();
-/// assert_eq!(came.iter().map(|range| (range.start(), range.end())).collect::<Vec<_>>(), [("kiwi", "kiwi")]);
-/// assert_eq!(came.iter().next().unwrap().hash().as_bytes(), tree.root_hash().as_bytes());
-/// ```
-pub struct PageRangeSnapshot<K> {
-    list: Vec<u8>,
-    key: PhantomData<fn() -> K>,
+keyed_list! {
+    /// The page ranges of a tree at one time, as the list that a peer can be sent.
+    ///
+    /// ```
+    /// use merkle_search_tree::{diff::PageRangeSnapshot, MerkleSearchTree};
+    ///
+    /// let mut tree = MerkleSearchTree::<String, u64>::default();
+    /// tree.upsert("kiwi".into(), &1);
+    /// let sent = tree.page_ranges().into_bytes();
+    ///
+    /// let came = PageRangeSnapshot::<String>::from_bytes(sent).unwrap();
+    /// assert_eq!(came.iter().map(|range| (range.start(), range.end())).collect::<Vec<_>>(), [("kiwi", "kiwi")]);
+    /// assert_eq!(came.iter().next().unwrap().hash().as_bytes(), tree.root_hash().as_bytes());
+    /// ```
+    PageRangeSnapshot of PageRange by SnapshotIter, "How many page ranges there are."
 }
-
-impl<K> PageRangeSnapshot<K> {
-    /// The snapshot of a list of page ranges with keys of the type, as the library writes it.
-    pub(crate) fn of_list(list: Vec<u8>) -> Self {
-        Self { list, key: PhantomData }
-    }
-
-    /// The list, to send to a peer. `mst.h` has it byte by byte.
-    pub fn as_bytes(&self) -> &[u8] {
-        &self.list
-    }
-
-    /// The same, by value.
-    pub fn into_bytes(self) -> Vec<u8> {
-        self.list
-    }
-
-    /// How many page ranges there are.
-    pub fn len(&self) -> usize {
-        list::count(&self.list)
-    }
-
-    /// Whether there is none.
-    pub fn is_empty(&self) -> bool {
-        self.len() == 0
-    }
-}
+sent_list!(PageRangeSnapshot of PageRange by SnapshotIter, "Goes over the page ranges.", "Goes over the page ranges of a snapshot.");
 
 impl<K: Key> PageRangeSnapshot<K> {
     /// The list that a peer sent. Any bytes may be given: they are refused where they are no list of page ranges, or where a key in
@@ -66,29 +43,8 @@ impl<K: Key> PageRangeSnapshot<K> {
         Ok(Self::of_list(list))
     }
 
-    /// Goes over the page ranges.
-    pub fn iter(&self) -> SnapshotIter<'_, K> {
-        SnapshotIter { list: &self.list, at: 0, left: self.len(), key: PhantomData }
-    }
-}
-
-impl<K> Clone for PageRangeSnapshot<K> {
-    fn clone(&self) -> Self {
-        Self::of_list(self.list.clone())
-    }
-}
-
-impl<K> PartialEq for PageRangeSnapshot<K> {
-    fn eq(&self, other: &Self) -> bool {
-        self.list == other.list
-    }
-}
-
-impl<K> Eq for PageRangeSnapshot<K> {}
-
-impl<K: Key> fmt::Debug for PageRangeSnapshot<K> {
-    fn fmt(&self, f: &mut fmt::Formatter<'_>) -> fmt::Result {
-        f.debug_list().entries(self).finish()
+    fn item((start, end, hash): sys::Entry<'_>) -> PageRange<'_, K> {
+        PageRange::of_entry(start, end, *hash.expect("a page range has a digest"))
     }
 }
 
@@ -122,44 +78,5 @@ impl<'a, K: Key> From<Vec<PageRange<'a, K>>> for PageRangeSnapshot<K> {
 impl<K: Key> From<Vec<OwnedPageRange<K>>> for PageRangeSnapshot<K> {
     fn from(ranges: Vec<OwnedPageRange<K>>) -> Self {
         ranges.into_iter().collect()
-    }
-}
-
-impl<'a, K: Key> IntoIterator for &'a PageRangeSnapshot<K> {
-    type Item = PageRange<'a, K>;
-    type IntoIter = SnapshotIter<'a, K>;
-    fn into_iter(self) -> SnapshotIter<'a, K> {
-        self.iter()
-    }
-}
-
-/// Goes over the page ranges of a snapshot.
-pub struct SnapshotIter<'a, K> {
-    list: &'a [u8],
-    at: usize,
-    left: usize,
-    key: PhantomData<fn() -> K>,
-}
-
-impl<'a, K: Key> Iterator for SnapshotIter<'a, K> {
-    type Item = PageRange<'a, K>;
-
-    fn next(&mut self) -> Option<PageRange<'a, K>> {
-        let (start, end, hash) = sys::next_range(self.list, &mut self.at).expect("a snapshot has a list")?;
-        self.left -= 1;
-        Some(PageRange::of_entry(start, end, *hash.expect("a page range has a digest")))
-    }
-
-    fn size_hint(&self) -> (usize, Option<usize>) {
-        (self.left, Some(self.left))
-    }
-}
-
-impl<K: Key> ExactSizeIterator for SnapshotIter<'_, K> {}
-impl<K: Key> FusedIterator for SnapshotIter<'_, K> {}
-
-impl<K: Key> fmt::Debug for SnapshotIter<'_, K> {
-    fn fmt(&self, f: &mut fmt::Formatter<'_>) -> fmt::Result {
-        f.debug_struct("SnapshotIter").field("left", &self.left).finish_non_exhaustive()
     }
 }
