@@ -41,7 +41,23 @@ def _entries(data: bytes, digest: int) -> "Iterator[Tuple[bytes, bytes, bytes]]"
         yield data[first:last - 8], data[last:end], data[end:at]
 
 
-class PageRanges:
+class _List:
+    """A list of ranges, as it is sent."""
+
+    __slots__ = ("_data",)
+    _data: bytes
+
+    def __bytes__(self) -> bytes:
+        return self._data
+
+    def __eq__(self, other: object) -> bool:
+        return isinstance(other, type(self)) and self._data == other._data
+
+    def __hash__(self) -> int:
+        return hash(self._data)
+
+
+class PageRanges(_List):
     """The page ranges of a tree at one time. `bytes(ranges)` is what a peer is sent.
 
     >>> from mst import Tree
@@ -50,7 +66,7 @@ class PageRanges:
     [(b'kiwi', b'kiwi')]
     """
 
-    __slots__ = ("_data", "_read")
+    __slots__ = ("_read",)
 
     def __init__(self, data: bytes) -> None:
         """Takes the list that a peer sent. Any bytes may be given: MalformedError where they are no list of page ranges, or where a first
@@ -66,9 +82,6 @@ class PageRanges:
         ranges._data, ranges._read = data, None
         return ranges
 
-    def __bytes__(self) -> bytes:
-        return self._data
-
     def __iter__(self) -> "Iterator[PageRange]":
         if self._read is None:
             self._read = [PageRange(*entry) for entry in _entries(self._data, 16)]
@@ -78,20 +91,14 @@ class PageRanges:
         count: int = _number(self._data, 4)[0]
         return count
 
-    def __eq__(self, other: object) -> bool:
-        return isinstance(other, PageRanges) and self._data == other._data
-
-    def __hash__(self) -> int:
-        return hash(self._data)
-
     def __repr__(self) -> str:
         return f"<PageRanges of {len(self)} pages>"
 
 
-class KeyRanges:
+class KeyRanges(_List):
     """Ranges of keys to ask a peer for: they ascend, and no two meet. `bytes(ranges)` is what the peer is sent."""
 
-    __slots__ = ("_data", "_read")
+    __slots__ = ("_read",)
 
     def __init__(self, data: bytes) -> None:
         """Takes the list that a peer sent. Any bytes may be given: MalformedError where they are no list of key ranges, or where the ranges
@@ -104,20 +111,11 @@ class KeyRanges:
         if any(first > last for first, last in self._read) or any(last >= first for last, first in zip(bounds[1::2], bounds[2::2])):
             raise MalformedError("the key ranges don't ascend")
 
-    def __bytes__(self) -> bytes:
-        return self._data
-
     def __iter__(self) -> "Iterator[KeyRange]":
         return iter(self._read)
 
     def __len__(self) -> int:
         return len(self._read)
-
-    def __eq__(self, other: object) -> bool:
-        return isinstance(other, KeyRanges) and self._data == other._data
-
-    def __hash__(self) -> int:
-        return hash(self._data)
 
     def __repr__(self) -> str:
         return f"<KeyRanges {self._read!r}>"

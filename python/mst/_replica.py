@@ -4,11 +4,11 @@ The calls are those of mst_replica.h. The messages are those of docs/WIRE.md, wh
 """
 import ctypes
 import struct
-import threading
-from typing import Dict, Generator, ItemsView, Iterator, KeysView, Mapping, NoReturn, Optional, Tuple, ValuesView
+from typing import Dict, Generator, ItemsView, Iterator, KeysView, Mapping, NoReturn, Tuple, ValuesView
 
 from . import _wire
-from ._library import ABSENT, MALFORMED, OTHER_SETTINGS, TOO_SHORT, Handle, MalformedError, check_settings, library, written
+from ._asking import Asking
+from ._library import ABSENT, MALFORMED, OTHER_SETTINGS, TOO_SHORT, library, written
 from ._sync_tree import first_question
 from ._tree import AnyRows
 from ._wire import LIMIT, MESSAGES, SESSION_BYTES, Read, Write
@@ -19,7 +19,7 @@ _number = struct.Struct("<Q").unpack_from
 Steps = Generator[bytes, bytes, int]
 
 
-class Replica(Handle, Mapping[bytes, bytes]):
+class Replica(Asking[int], Mapping[bytes, bytes]):
     """Rows in memory with the tree over them, which catch up with those of other replicas. It is read as a dict whose keys are in their order.
 
     Of two values under one key the greater stays, as Python orders bytes: so replicas that have caught up with each other hold the same rows,
@@ -49,18 +49,14 @@ class Replica(Handle, Mapping[bytes, bytes]):
     bytes.
     """
 
-    __slots__ = ("_settings", "_guess", "_lock", "_under_way")
+    __slots__ = ("_guess",)
+    _OTHER = "another catch-up of this replica began in the place of this one"
 
     def __init__(self, rows: AnyRows = (), *, key: bytes = bytes(16), level_base: int = 16, page_format: int = 1) -> None:
         """The replica of these rows; of values under one key the greatest stays. The settings are those of `Tree`. Replicas that catch up with
         each other have all three in common, and refuse others."""
-        check_settings(key, level_base, page_format)
-        super().__init__()
-        self._settings = key, level_base, page_format
+        super().__init__(key, level_base, page_format)
         self._guess = 1024
-        # Held from a call that keeps a message until the message is read, and from one step of a catch-up to its end.
-        self._lock = threading.RLock()
-        self._under_way: "Optional[object]" = None
         _check(library.mst_replica_new_with(self._address, key, level_base, page_format))
         for row in sorted(rows.items() if isinstance(rows, Mapping) else rows):
             self.put(*row)
@@ -152,19 +148,7 @@ class Replica(Handle, Mapping[bytes, bytes]):
         MalformedError where a reply is none to what was asked, or the peer goes on for too long, and RefusedError where it refuses: the rows
         are as before. MalformedError comes too where rows were put into the peer's in between, so that a key came twice: then begin again.
         MemoryError where memory is refused: it says how many of the rows that came are joined."""
-        _wire.check_limits(messages=messages)
-        mine, spent = object(), _wire.Spent(session_bytes)
-        question = self._ask(mine)
-        try:
-            for _ in range(messages):
-                reply = yield question
-                spent.add(question, reply)
-                question, joined = self._take(mine, reply)
-                if not question:
-                    return joined
-            raise MalformedError(f"the peer isn't done after {messages} questions")
-        finally:
-            self._leave(mine)
+        return self._steps(messages, session_bytes)
 
     def catch_up(self, read: Read, write: Write, *, limit: int = LIMIT, messages: int = MESSAGES, session_bytes: int = SESSION_BYTES) -> int:
         """Brings the rows of a peer that runs `serve` over a connection, and returns how many came. At the end the peer is told so: then it may
@@ -203,34 +187,22 @@ class Replica(Handle, Mapping[bytes, bytes]):
                 _check(status)
             return status, self._message(size.value)
 
-    def _ask(self, mine: object) -> bytes:
-        """Begins a catch-up, and returns its first question, which tells the settings, as that of a `SyncTree` does."""
+    def _begin(self) -> int:
         size = ctypes.c_size_t()
-        with self._lock:
-            _check(library.mst_replica_ask(self._address, ctypes.byref(size)))
-            self._under_way = mine
-            question = self._message(size.value)
-        return question if len(question) > _wire.WITHOUT_KEY else first_question(*self._settings)
+        _check(library.mst_replica_ask(self._address, ctypes.byref(size)))
+        return size.value
 
-    def _take(self, mine: object, reply: bytes) -> "Tuple[bytes, int]":
-        """Takes a reply, and returns the next question, or none and how many rows came."""
+    def _first_question(self) -> bytes:
+        return first_question(*self._settings)
+
+    def _taken(self, reply: bytes) -> "Tuple[bytes, int]":
         size, joined = ctypes.c_size_t(), ctypes.c_size_t()
-        with self._lock:
-            if self._under_way is not mine:
-                raise ValueError("another catch-up of this replica began in the place of this one")
-            try:
-                status = library.mst_replica_take(self._address, reply, len(reply), ctypes.byref(size), ctypes.byref(joined))
-            except ctypes.ArgumentError:
-                raise TypeError("messages are bytes") from None
-            _check(status, joined.value)
-            return self._message(size.value) if size.value else b"", joined.value
+        status = library.mst_replica_take(self._address, reply, len(reply), ctypes.byref(size), ctypes.byref(joined))
+        _check(status, joined.value)
+        return self._message(size.value) if size.value else b"", joined.value
 
-    def _leave(self, mine: object) -> None:
-        """Ends a catch-up that was left, so that what came of it is let go: no bytes are a reply to no question."""
-        with self._lock:
-            if self._under_way is mine:
-                self._under_way = None
-                library.mst_replica_take(self._address, b"", 0, ctypes.byref(ctypes.c_size_t()), ctypes.byref(ctypes.c_size_t()))
+    def _let_go(self) -> None:
+        library.mst_replica_take(self._address, b"", 0, ctypes.byref(ctypes.c_size_t()), ctypes.byref(ctypes.c_size_t()))
 
     def _message(self, size: int) -> bytes:
         return written(size, lambda out, room, needed: library.mst_replica_message(self._address, out, room, needed))

@@ -10,11 +10,13 @@ import itertools
 import os.path
 import struct
 import threading
-from typing import Callable, Dict, Generator, Iterable, Iterator, List, NoReturn, Optional, Protocol, Tuple
+from typing import Any, Callable, Dict, Generator, Iterable, Iterator, List, NoReturn, Optional, Protocol, Tuple
 
 from . import _wire
+from ._asking import Asking
+from ._digests import Digests
 from ._keys import keys_in
-from ._library import ABSENT, MALFORMED, NEEDS_ROWS, OTHER_SETTINGS, Handle, MalformedError, check_settings, library, written
+from ._library import MALFORMED, NEEDS_ROWS, OTHER_SETTINGS, MalformedError, library, written
 from ._ranges import _entries
 from ._sessions import Sessions
 from ._wire import LIMIT, MESSAGES, SESSION_BYTES, SESSION_ROWS, Read, Write, check
@@ -60,7 +62,7 @@ class Rows(Protocol):
         as it was, or not at all."""
 
 
-class SyncTree(Sessions[Rows, Row], Handle):
+class SyncTree(Sessions[Rows, Row], Asking[List[Row]], Digests):
     """The digests of rows that are elsewhere, as in a database, in a Merkle search tree in memory; and catch-ups of these rows with those
     of peers: other such trees, `Replica`, and replicas in C and Rust.
 
@@ -99,20 +101,17 @@ class SyncTree(Sessions[Rows, Row], Handle):
     call but `close`; MemoryError if memory is refused, and then the tree is as before; TypeError if a key, a value or a message isn't bytes.
     """
 
-    __slots__ = ("_settings", "_lock", "_writing", "_under_way", "_unsure")
+    __slots__ = ("_writing", "_unsure")
+    _OTHER = "another catch-up of this tree began in the place of this one, or the tree was loaded anew"
 
     def __init__(self, rows: "Optional[Rows]" = None, *, key: bytes = bytes(16), level_base: int = 16, page_format: int = 1) -> None:
         """The tree of these rows, by `load`. The settings are those of `Replica`, and peers that catch up with each other have all three in
         common, and refuse others."""
-        check_settings(key, level_base, page_format)
-        super().__init__()
-        self._settings = key, level_base, page_format
-        # Held within each call of the library and until what it keeps is read; never while rows are looked up or written.
-        self._lock = threading.RLock()
+        # (Its lock is held within each call of the library and until what it keeps is read; never while rows are looked up or written.)
+        super().__init__(key, level_base, page_format)
         # Held while rows are written, and looked up after a write, until the tree is set to them: so the last of several settings of a key is
         # the one that was read last.
         self._writing = threading.RLock()
-        self._under_way: "Optional[object]" = None
         # The keys to be looked up; those at which a look-up raised are the last.
         self._unsure: "Dict[bytes, None]" = {}
         check(library.mst_sync_new_with(self._address, key, level_base, page_format))
@@ -243,39 +242,13 @@ class SyncTree(Sessions[Rows, Row], Handle):
         if status:
             check(status)
 
-    def __delitem__(self, key: bytes) -> None:
-        """Takes a key out; KeyError if it isn't there."""
-        if not self.discard(key):
-            raise KeyError(key)
+    def _remove(self, key: bytes) -> int:
+        with self._lock:
+            return library.mst_sync_remove(self._address, key, len(key))
 
-    def discard(self, key: bytes) -> bool:
-        """Takes a key out, and says whether it was there. A peer that has the row brings it back, unless a value says that it was removed."""
-        try:
-            with self._lock:
-                status = library.mst_sync_remove(self._address, key, len(key))
-        except ctypes.ArgumentError:
-            raise TypeError("keys are bytes") from None
-        if status == ABSENT:
-            return False
-        check(status)
-        return True
-
-    def get_digest(self, key: bytes) -> "Optional[bytes]":
-        """The digest of the value at a key; None if the key isn't there."""
-        digest = ctypes.create_string_buffer(16)
-        try:
-            with self._lock:
-                status = library.mst_sync_find(self._address, key, len(key), digest)
-        except ctypes.ArgumentError:
-            raise TypeError("keys are bytes") from None
-        if status == ABSENT:
-            return None
-        check(status)
-        return digest.raw
-
-    def __contains__(self, key: bytes) -> bool:
-        """Whether a key is there."""
-        return self.get_digest(key) is not None
+    def _find(self, key: bytes, digest: Any) -> int:
+        with self._lock:
+            return library.mst_sync_find(self._address, key, len(key), digest)
 
     def __len__(self) -> int:
         """How many keys there are. It counts them."""
@@ -305,21 +278,11 @@ class SyncTree(Sessions[Rows, Row], Handle):
 
         MalformedError if a reply isn't one to what was asked, or the peer goes on for too long, and RefusedError if it refuses.
         MalformedError comes too if rows were written at the peer in between, so that a key came twice: then begin again."""
-        _wire.check_limits(messages=messages, session_rows=session_rows)
-        mine, spent = object(), _wire.Spent(session_bytes)
-        question = self._ask(mine)
-        try:
-            for _ in range(messages):
-                reply = yield question
-                spent.add(question, reply)
-                question, came = self._take(mine, reply)
-                if len(came) > session_rows:
-                    raise MalformedError(f"{len(came)} rows came, and the limit is {session_rows}")
-                if not question:
-                    return came
-            raise MalformedError(f"the peer isn't done after {messages} questions")
-        finally:
-            self._leave(mine)
+        _wire.check_limits(session_rows=session_rows)
+        came = yield from self._steps(messages, session_bytes)
+        if len(came) > session_rows:
+            raise MalformedError(f"{len(came)} rows came, and the limit is {session_rows}")
+        return came
 
     def catch_up(self, rows: Rows, read: Read, write: Write, *, limit: int = LIMIT, messages: int = MESSAGES,
                  session_bytes: int = SESSION_BYTES, session_rows: int = SESSION_ROWS) -> int:
@@ -377,45 +340,34 @@ class SyncTree(Sessions[Rows, Row], Handle):
         size = ctypes.c_size_t()
         with self._lock:
             check(library.mst_sync_answer(self._address, question, len(question), ctypes.byref(size), ctypes.byref(ctypes.c_size_t())))
-            return self._kept(library.mst_sync_message, size.value)
+            return self._message(size.value)
 
     def _kept_reply(self, status: int, size: int) -> "Tuple[int, bytes]":
         if status not in (MALFORMED, OTHER_SETTINGS):
             check(status)
-        return status, self._kept(library.mst_sync_message, size)
+        return status, self._message(size)
 
-    def _ask(self, mine: object) -> bytes:
-        """Begins a catch-up, and returns its first question, which tells the settings: the key of SipHash by the digest of a key. A tree without
-        keys takes the empty one, as a tree does that has it alone."""
+    def _begin(self) -> int:
         size = ctypes.c_size_t()
-        with self._lock:
-            check(library.mst_sync_ask(self._address, ctypes.byref(size)))
-            self._under_way = mine
-            question = self._kept(library.mst_sync_message, size.value)
-        return question if len(question) > _wire.WITHOUT_KEY else first_question(*self._settings)
+        check(library.mst_sync_ask(self._address, ctypes.byref(size)))
+        return size.value
 
-    def _take(self, mine: object, reply: bytes) -> "Tuple[bytes, List[Row]]":
-        """Takes a reply, and returns the next question, or none and the rows that came."""
+    def _first_question(self) -> bytes:
+        return first_question(*self._settings)
+
+    def _taken(self, reply: bytes) -> "Tuple[bytes, List[Row]]":
         size, list_size = ctypes.c_size_t(), ctypes.c_size_t()
-        with self._lock:
-            if self._under_way is not mine:
-                raise ValueError("another catch-up of this tree began in the place of this one, or the tree was loaded anew")
-            try:
-                status = library.mst_sync_take(self._address, reply, len(reply), ctypes.byref(size), ctypes.byref(list_size))
-            except ctypes.ArgumentError:
-                raise TypeError("messages are bytes") from None
-            check(status)
-            if size.value:
-                return self._kept(library.mst_sync_message, size.value), []
-            came = self._kept(library.mst_sync_list, list_size.value)
+        check(library.mst_sync_take(self._address, reply, len(reply), ctypes.byref(size), ctypes.byref(list_size)))
+        if size.value:
+            return self._message(size.value), []
+        came = self._kept(library.mst_sync_list, list_size.value)
         return b"", [(key, value) for key, value, _ in _entries(came, 0)]
 
-    def _leave(self, mine: object) -> None:
-        """Ends a catch-up that was left, so that what came of it is let go: no bytes are a reply to no question."""
-        with self._lock:
-            if self._under_way is mine:
-                self._under_way = None
-                library.mst_sync_take(self._address, b"", 0, ctypes.byref(ctypes.c_size_t()), ctypes.byref(ctypes.c_size_t()))
+    def _let_go(self) -> None:
+        library.mst_sync_take(self._address, b"", 0, ctypes.byref(ctypes.c_size_t()), ctypes.byref(ctypes.c_size_t()))
+
+    def _message(self, size: int) -> bytes:
+        return self._kept(library.mst_sync_message, size)
 
     def _kept(self, call: "Callable[..., int]", size: int) -> bytes:
         """The message or the list that the library keeps."""

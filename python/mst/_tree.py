@@ -1,16 +1,17 @@
 """The tree."""
 import ctypes
 import struct
-from typing import Dict, Iterable, List, Mapping, NamedTuple, NoReturn, Optional, Tuple, Union
+from typing import Any, Dict, Iterable, List, Mapping, NamedTuple, NoReturn, Optional, Tuple, Union
 
-from ._library import ABSENT, Handle, check, check_settings, library, written
+from ._digests import Digests
+from ._library import Handle, check, check_settings, library, written
 from ._ranges import PageRanges
 
 AnyRows = Union[Mapping[bytes, bytes], Iterable[Tuple[bytes, bytes]]]
 
 _pack = struct.Struct("<Q").pack
 _number = struct.Struct("<Q").unpack_from
-_upsert, _remove = library.mst_tree_upsert, library.mst_tree_remove
+_upsert = library.mst_tree_upsert
 
 
 _FEEDS = ("bytes", "text", "vector")
@@ -53,7 +54,7 @@ def _page(data: bytes, at: int) -> "Tuple[Page, int]":
     return Page(level, digest, tuple(keys), tuple(pages), high), at
 
 
-class Tree(Handle):
+class Tree(Digests):
     """A Merkle search tree: a map from byte strings to the digests of byte strings, whose root hash depends on the map and on the settings
     alone. The values aren't kept.
 
@@ -104,22 +105,11 @@ class Tree(Handle):
         if status:
             check(status)
 
-    def __delitem__(self, key: bytes) -> None:
-        """Takes a key out; KeyError where it isn't there."""
-        if not self.discard(key):
-            raise KeyError(key)
+    def _remove(self, key: bytes) -> int:
+        return library.mst_tree_remove(self._address, key, len(key))
 
-    def discard(self, key: bytes) -> bool:
-        """Takes a key out, and says whether it was there. A removal isn't merged: a peer that has the row brings it back, unless a mark
-        stands for its value."""
-        try:
-            status = _remove(self._address, key, len(key))
-        except ctypes.ArgumentError:
-            raise TypeError("keys are bytes") from None
-        if status == ABSENT:
-            return False
-        check(status)
-        return True
+    def _find(self, key: bytes, digest: Any) -> int:
+        return library.mst_tree_find(self._address, key, len(key), digest)
 
     def update(self, rows: AnyRows) -> None:
         """Sets each key of the rows to the digest of its value, in any order; of rows with one key the last stays. They go over a thousand at a
@@ -183,22 +173,6 @@ class Tree(Handle):
             count += 1
         data = b"".join([b"MSTd", _pack(count), *parts])
         check(library.mst_tree_load_digests(self._address, data, len(data)))
-
-    def get_digest(self, key: bytes) -> "Optional[bytes]":
-        """The digest of the value at a key; None where the key isn't there."""
-        digest = ctypes.create_string_buffer(16)
-        try:
-            status = library.mst_tree_find(self._address, key, len(key), digest)
-        except ctypes.ArgumentError:
-            raise TypeError("keys are bytes") from None
-        if status == ABSENT:
-            return None
-        check(status)
-        return digest.raw
-
-    def __contains__(self, key: bytes) -> bool:
-        """Whether a key is there."""
-        return self.get_digest(key) is not None
 
     def root_hash(self) -> bytes:
         """The root hash, 16 bytes. It hashes the pages that changed since the last call."""
