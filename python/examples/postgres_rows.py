@@ -25,7 +25,7 @@ class Rows:
     def __init__(self, config: str) -> None:
         self._config = config
         self._lock = threading.Lock()
-        self._connection = psycopg.connect(config, autocommit=True)
+        self._connection: "psycopg.Connection[Any]" = psycopg.connect(config, autocommit=True)
         self._connection.execute(TABLE)
 
     def _connected(self) -> "psycopg.Connection[Any]":
