@@ -7,26 +7,7 @@ import subprocess
 PAGE_FORMAT = 2
 # What asks for all rows: the question of kind 5 over the gap of all keys.
 ALL_ROWS = bytes([1, 5, 1, 0, 0])
-HANDLE, BYTES, SIZE = ctypes.POINTER(ctypes.c_void_p), ctypes.c_char_p, ctypes.c_size_t
-CALLS = {
-    "mst_replica_new_with": [HANDLE, BYTES, ctypes.c_uint8, ctypes.c_uint8],
-    "mst_replica_free": [HANDLE],
-    "mst_replica_put": [HANDLE, BYTES, SIZE, BYTES, SIZE],
-    "mst_replica_root_hash": [HANDLE, BYTES],
-    "mst_replica_rows": [HANDLE, BYTES, SIZE, ctypes.POINTER(SIZE)],
-    "mst_replica_message": [HANDLE, BYTES, SIZE, ctypes.POINTER(SIZE)],
-    "mst_replica_ask": [HANDLE, ctypes.POINTER(SIZE)],
-    "mst_replica_answer": [HANDLE, BYTES, SIZE, ctypes.POINTER(SIZE)],
-    "mst_replica_take": [HANDLE, BYTES, SIZE, ctypes.POINTER(SIZE), ctypes.POINTER(SIZE)],
-}
-
-
-def loaded(path):
-    library = ctypes.CDLL(str(path))
-    for name, takes in CALLS.items():
-        getattr(library, name).argtypes = takes
-    library.mst_replica_free.restype = None
-    return library
+SIZE = ctypes.c_size_t
 
 
 class Replica:

@@ -10,57 +10,13 @@ import signal
 
 from soak_parts import lists
 from soak_parts.handles import ABSENT, DONE, TOO_SHORT, Handles
+from soak_parts.header import SIZE, Range, Row, loaded
 from soak_parts.shrink import smaller
 from soak_parts.trees import Settings
 
 SLOTS = 3
 # Seconds that a session may take.
 PATIENCE = 60
-HANDLE, BYTES, SIZE, BYTE = ctypes.POINTER(ctypes.c_void_p), ctypes.c_char_p, ctypes.c_size_t, ctypes.c_uint8
-WRITTEN = ctypes.POINTER(SIZE)
-
-
-class Range(ctypes.Structure):
-    """`struct mst_range` of mst.h."""
-    _fields_ = [("first", ctypes.c_void_p), ("first_len", SIZE), ("last", ctypes.c_void_p), ("last_len", SIZE), ("digest", ctypes.c_void_p)]
-
-
-class Row(ctypes.Structure):
-    """`struct mst_row` of mst.h."""
-    _fields_ = [("key", ctypes.c_void_p), ("key_len", SIZE), ("value", ctypes.c_void_p), ("value_len", SIZE)]
-
-
-CALLS = {
-    "mst_tree_new": [HANDLE],
-    "mst_tree_new_with": [HANDLE, BYTES, BYTE, BYTE],
-    "mst_tree_new_as": [HANDLE, BYTES, BYTE, BYTE, BYTE],
-    "mst_tree_clone": [HANDLE, HANDLE],
-    "mst_tree_free": [HANDLE],
-    "mst_tree_upsert": [HANDLE, BYTES, SIZE, BYTES, SIZE],
-    "mst_tree_upsert_digest": [HANDLE, BYTES, SIZE, BYTES],
-    "mst_tree_upsert_rows": [HANDLE, BYTES, SIZE, WRITTEN],
-    "mst_tree_remove": [HANDLE, BYTES, SIZE],
-    "mst_tree_load": [HANDLE, BYTES, SIZE],
-    "mst_tree_load_digests": [HANDLE, BYTES, SIZE],
-    "mst_tree_find": [HANDLE, BYTES, SIZE, BYTES],
-    "mst_tree_len": [HANDLE, WRITTEN],
-    "mst_tree_root_hash": [HANDLE, BYTES],
-    "mst_tree_page_ranges": [HANDLE, BYTES, SIZE, WRITTEN],
-    "mst_tree_digests": [HANDLE, BYTES, SIZE, WRITTEN],
-    "mst_tree_pages": [HANDLE, BYTES, SIZE, WRITTEN],
-    "mst_diff": [BYTES, SIZE, BYTES, SIZE, BYTES, SIZE, WRITTEN],
-    "mst_ranges_next": [BYTES, SIZE, WRITTEN, ctypes.POINTER(Range)],
-    "mst_rows_next": [BYTES, SIZE, WRITTEN, ctypes.POINTER(Row)],
-}
-
-
-def loaded(path):
-    """The library at this path, with the types of its calls."""
-    library = ctypes.PyDLL(path)
-    for name, takes in CALLS.items():
-        getattr(library, name).argtypes = takes
-    library.mst_tree_free.restype = None
-    return library
 
 
 class Wrong(Exception):
@@ -384,7 +340,7 @@ def fault(path, steps):
         os.close(reading)
         signal.alarm(PATIENCE)
         try:
-            found = compare(loaded(path), steps)
+            found = compare(loaded(path, "mst.h"), steps)
         except BaseException as wrong:  # what the model itself does wrong is to be seen by the parent
             found = f"{type(wrong).__name__}: {wrong}"
         with os.fdopen(writing, "wb") as told:
