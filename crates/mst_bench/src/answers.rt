@@ -6,7 +6,6 @@ use crate::fault::Fault;
 use crate::sample::{Sample, Tree, ranges, root};
 use merkle_diff::diff;
 use std::alloc::Global;
-use std::io::Write;
 
 /// The numbers of keys that are answered for.
 const COUNTS: [usize; 3] = [100, 1_000, 10_000];
@@ -20,9 +19,9 @@ fn differences(alloc: Global, local: &Tree, peer: &Tree) -> Result<usize, Fault>
     Ok(found.len())
 }
 
-/// Writes a line: the number of keys, the root hashes of the local and the peer's tree, how many page ranges each has, and how many
+/// The line of `count` keys: their number, the root hashes of the local and the peer's tree, how many page ranges each has, and how many
 /// ranges the local tree asks of the peer's and of the third.
-fn write_line<W: Write>(alloc: Global, count: usize, out: &mut W) -> Result<(), Fault> {
+fn line(alloc: Global, count: usize) -> Result<String, Fault> {
     let sample = Sample::new(alloc, count)?;
     let local_ranges = ranges(&sample.local)?.len();
     let peer_ranges = ranges(&sample.peer)?.len();
@@ -30,17 +29,16 @@ fn write_line<W: Write>(alloc: Global, count: usize, out: &mut W) -> Result<(), 
     let of_third = differences(alloc, &sample.local, &sample.third)?;
     let local = root(&sample.local);
     let peer = root(&sample.peer);
-    writeln!(
-        out,
+    Ok(format!(in alloc;
         "{count} {local} {peer} {local_ranges} {peer_ranges} {of_peer} {of_third}"
-    )
-    .map_err(|_| Fault::Output)
+    )?)
 }
 
-/// Writes a line for each number of keys.
-pub fn write_lines<W: Write>(alloc: Global, out: &mut W) -> Result<(), Fault> {
+/// A line for each number of keys.
+pub fn lines(alloc: Global) -> Result<Vec<String>, Fault> {
+    let mut lines = Vec::new(alloc);
     for count in COUNTS {
-        write_line(alloc, count, out)?;
+        lines.push(line(alloc, count)?)?;
     }
-    Ok(())
+    Ok(lines)
 }

@@ -3,23 +3,16 @@
 ghost use Rattle.std.specs.Str.Parse.{ParsesUnsigned};
 
 use crate::fault::Fault;
+use crate::table::Table;
 use std::alloc::Global;
 
 /// What the program is to do.
-#[derive(Debug, Drop)]
+#[derive(Drop)]
 pub enum Task {
     /// Print what the trees of the sample keys answer.
     Answers,
-    /// Print the times of the operations on this many keys each.
-    Times(Vec<usize>),
-    /// Print the times of cutting out this many ranges each.
-    CutTimes(Vec<usize>),
-    /// Print the times of pulls from replicas of this many rows each.
-    PullTimes(Vec<usize>),
-    /// Print the times of catch-ups with replicas of this many rows each.
-    CatchUpTimes(Vec<usize>),
-    /// Print how many messages and bytes catch-ups over a wire take with replicas of this many rows each.
-    Sessions(Vec<usize>),
+    /// Print this table for each of these numbers.
+    Table(Table, Vec<usize>),
 }
 
 /// The number that the word spells in decimal digits, where it is one below 2 ^ 64.
@@ -41,6 +34,18 @@ fn counts(alloc: Global, words: &[String]) -> Result<Vec<usize>, Fault> {
     Ok(counts)
 }
 
+/// The table that an option names.
+fn table_of(option: &str) -> Result<Table, Fault> {
+    match option {
+        "--time" => Ok(Table::Times),
+        "--time-cut" => Ok(Table::Cuts),
+        "--time-pull" => Ok(Table::Pulls),
+        "--time-catch-up" => Ok(Table::CatchUps),
+        "--sessions" => Ok(Table::Sessions),
+        _ => Err(Fault::Usage),
+    }
+}
+
 /// The task that the words after the program's name ask for.
 pub fn task_of(alloc: Global, words: &[String]) -> Result<Task, Fault> {
     let Some((option, numbers)) = words.split_first() else {
@@ -49,12 +54,5 @@ pub fn task_of(alloc: Global, words: &[String]) -> Result<Task, Fault> {
     if numbers.is_empty() {
         return Err(Fault::Usage);
     }
-    match option.as_str() {
-        "--time" => Ok(Task::Times(counts(alloc, numbers)?)),
-        "--time-cut" => Ok(Task::CutTimes(counts(alloc, numbers)?)),
-        "--time-pull" => Ok(Task::PullTimes(counts(alloc, numbers)?)),
-        "--time-catch-up" => Ok(Task::CatchUpTimes(counts(alloc, numbers)?)),
-        "--sessions" => Ok(Task::Sessions(counts(alloc, numbers)?)),
-        _ => Err(Fault::Usage),
-    }
+    Ok(Task::Table(table_of(option.as_str())?, counts(alloc, numbers)?))
 }

@@ -3,15 +3,18 @@
 use crate::clock::{Best, Each, now};
 use crate::fault::Fault;
 use crate::keys::{LOCAL_SEED, keys};
-use crate::sessions::{ByDeltas, Cost, Numbers, Session, cost_of};
-use merkle_replica::Replica;
-use merkle_search_tree::builder::Builder;
+use crate::replicas::{Numbers, replica_of};
+use crate::sessions::{Cost, cost_of};
 use std::alloc::Global;
-use std::io::Write;
 use std::rt::Clock;
 
-/// A session of messages alone.
-type Plain = merkle_wire::CatchingUp<String, u64>;
+/// The names of the columns of times, which are in microseconds.
+pub const NAMES: &str =
+    "rows differing way catch_up_us session_us delta_us pull_us rounds bytes delta_bytes fetched joined pull_bytes pulled";
+
+/// The names of the columns of sessions.
+pub const SESSION_NAMES: &str =
+    "rows differing way messages rounds sent came delta_messages delta_sent delta_came fetched";
 
 /// The bytes of a key of 17 bytes after its length, of a value below 128, and of a digest after its length.
 const KEY: usize = 18;
@@ -33,21 +36,12 @@ fn differing_of(alloc: Global, count: usize) -> Result<Vec<usize>, Fault> {
     Ok(differing)
 }
 
-/// What differs at a row.
-#[derive(Clone, Copy, PartialEq, Eq)]
-enum Kind {
-    /// The value.
-    Changed,
-    /// The row is missing.
-    Missing,
-}
-
-/// The replica of these keys with the value 2, hashed, but at each of the places a lower value or no row.
+/// The replica of these keys with the value 2, hashed, but at each of the places the value `lower`, or no row where that is 0.
 fn replica(
     alloc: Global,
     sorted: &[String],
     places: &[usize],
-    kind: Kind,
+    lower: u64,
 ) -> Result<Numbers, Fault> {
     let mut rows = Vec::new(alloc);
     let mut next = 0;
@@ -55,20 +49,15 @@ fn replica(
         let mut value = 2;
         if places.get(next) == Some(&place) {
             next = next.saturating_add(1);
-            value = if kind == Kind::Changed { 1 } else { 0 };
+            value = lower;
         }
         if value > 0 {
             rows.push((key.clone()?, value))?;
         }
     }
-    match Replica::from_rows(alloc, Builder::default(), rows) {
-        Ok(replica) => {
-            let mut replica = replica;
-            replica.hash();
-            Ok(replica)
-        }
-        Err(_) => Err(Fault::Memory),
-    }
+    let mut replica = replica_of(alloc, rows)?;
+    replica.hash();
+    Ok(replica)
 }
 
 /// This many random places below a bound, or all of them, each once and in ascending order.
@@ -93,40 +82,32 @@ fn places(alloc: Global, many: usize, bound: usize) -> Result<Vec<usize>, Fault>
     Ok(places)
 }
 
-/// The keys of a line of the table, and at which of their places rows differ in which way.
+/// The keys of a line of the table, and at which of their places rows differ: by a lower value, or are missing where that is 0.
 #[derive(Clone, Copy)]
 struct Case<'a> {
     sorted: &'a [String],
     places: &'a [usize],
-    kind: Kind,
+    lower: u64,
 }
 
-impl<'a> Case<'a> {
-    /// The case of changed values at these places.
-    fn changed(sorted: &'a [String], places: &'a [usize]) -> Self {
-        Case {
-            sorted,
-            places,
-            kind: Kind::Changed,
-        }
-    }
-
-    /// The case of missing rows at the same places.
-    fn missing(self) -> Self {
-        Case {
-            kind: Kind::Missing,
-            ..self
-        }
-    }
-
+impl Case<'_> {
     /// The replica with the differences.
     fn asking(&self, alloc: Global) -> Result<Numbers, Fault> {
-        replica(alloc, self.sorted, self.places, self.kind)
+        replica(alloc, self.sorted, self.places, self.lower)
     }
 
     /// The replica that it catches up with.
     fn asked(&self, alloc: Global) -> Result<Numbers, Fault> {
-        replica(alloc, self.sorted, &[], self.kind)
+        replica(alloc, self.sorted, &[], self.lower)
+    }
+
+    /// The name of the way in which rows differ.
+    fn way(&self) -> &'static str {
+        if self.lower == 0 {
+            "missing"
+        } else {
+            "changed"
+        }
     }
 }
 
@@ -143,31 +124,33 @@ fn bytes_of_pull(peer: &Numbers, pulled: usize) -> Result<usize, Fault> {
 }
 
 /// Times a session, both sides of it, which joins nothing, and returns what it takes over a wire.
-fn time_session<S: Session, R: Clock>(
+fn time_session<R: Clock>(
     rt: &R,
     alloc: Global,
     local: &mut Numbers,
     peer: &mut Numbers,
+    by_deltas: bool,
     best: &mut Best,
 ) -> Result<Cost, Fault> {
     let start = now(rt)?;
-    let cost = cost_of::<S>(alloc, local, peer);
+    let cost = cost_of(alloc, local, peer, by_deltas);
     best.note_since(rt, start)?;
     cost
 }
 
 /// The best time of four sessions, and what the last took over a wire.
-fn sessions<S: Session, R: Clock>(
+fn sessions<R: Clock>(
     rt: &R,
     alloc: Global,
     case: Case<'_>,
     peer: &mut Numbers,
+    by_deltas: bool,
 ) -> Result<(Best, Cost), Fault> {
     let mut local = case.asking(alloc)?;
     let mut best = Best::new();
-    let mut cost = time_session::<S, R>(rt, alloc, &mut local, peer, &mut best)?;
+    let mut cost = time_session(rt, alloc, &mut local, peer, by_deltas, &mut best)?;
     for _ in 0..3 {
-        cost = time_session::<S, R>(rt, alloc, &mut local, peer, &mut best)?;
+        cost = time_session(rt, alloc, &mut local, peer, by_deltas, &mut best)?;
     }
     Ok((best, cost))
 }
@@ -219,14 +202,6 @@ fn joins<R: Clock>(
     Ok((best, joined))
 }
 
-/// The name of what differs at a row.
-fn name_of(kind: Kind) -> &'static str {
-    match kind {
-        Kind::Changed => "changed",
-        Kind::Missing => "missing",
-    }
-}
-
 /// What is measured of a case: the best times, what the sessions take over a wire, and the rows and bytes of pulls.
 #[derive(Drop)]
 struct Measured {
@@ -244,8 +219,8 @@ struct Measured {
 /// Measures a case; times are in microseconds.
 fn measure<R: Clock>(rt: &R, alloc: Global, case: Case<'_>) -> Result<Measured, Fault> {
     let mut peer = case.asked(alloc)?;
-    let (session, plain) = sessions::<Plain, R>(rt, alloc, case, &mut peer)?;
-    let (by_deltas, less) = sessions::<ByDeltas, R>(rt, alloc, case, &mut peer)?;
+    let (session, plain) = sessions(rt, alloc, case, &mut peer, false)?;
+    let (by_deltas, less) = sessions(rt, alloc, case, &mut peer, true)?;
     let (catch_up, joined) = joins(rt, alloc, case, Way::CatchUp, &mut peer)?;
     let (pull, pulled) = joins(rt, alloc, case, Way::Pull, &mut peer)?;
     let pull_bytes = bytes_of_pull(&peer, pulled)?;
@@ -262,93 +237,73 @@ fn measure<R: Clock>(rt: &R, alloc: Global, case: Case<'_>) -> Result<Measured, 
     })
 }
 
-/// Writes the line of a case.
-fn write_line<W: Write>(case: Case<'_>, measured: &Measured, out: &mut W) -> Result<(), Fault> {
-    let (rows, differing, way) = (case.sorted.len(), case.places.len(), name_of(case.kind));
+/// The line of a case.
+fn line(alloc: Global, case: Case<'_>, measured: &Measured) -> Result<String, Fault> {
+    let (rows, differing, way) = (case.sorted.len(), case.places.len(), case.way());
     let (catch_up, session) = (&measured.catch_up, &measured.session);
     let (by_deltas, pull) = (&measured.by_deltas, &measured.pull);
     let (rounds, fetched) = (measured.plain.rounds, measured.plain.fetched);
     let (bytes, delta_bytes) = (measured.plain.bytes(), measured.less.bytes());
     let (joined, pull_bytes, pulled) = (measured.joined, measured.pull_bytes, measured.pulled);
-    writeln!(
-        out,
+    Ok(format!(in alloc;
         "{rows} {differing} {way} {catch_up} {session} {by_deltas} {pull} {rounds} {bytes} {delta_bytes} {fetched} {joined} {pull_bytes} {pulled}"
-    )
-    .map_err(|_| Fault::Output)
+    )?)
 }
 
-/// Writes the table of catch-ups: a line of names, and for each number of rows one for each number of rows that differ, times in
-/// microseconds.
-pub fn write_table<R: Clock, W: Write>(
+/// The line of a case without times: how many messages and rounds a session takes, how many bytes are sent and come, and the same by deltas.
+fn session_line(alloc: Global, case: Case<'_>) -> Result<String, Fault> {
+    let mut peer = case.asked(alloc)?;
+    let mut local = case.asking(alloc)?;
+    let plain = cost_of(alloc, &mut local, &mut peer, false)?;
+    let less = cost_of(alloc, &mut local, &mut peer, true)?;
+    let (rows, differing, way) = (case.sorted.len(), case.places.len(), case.way());
+    let (messages, rounds, fetched) = (plain.messages, plain.rounds, plain.fetched);
+    let (sent, came) = (plain.sent, plain.came);
+    let (delta_messages, delta_sent, delta_came) = (less.messages, less.sent, less.came);
+    Ok(format!(in alloc;
+        "{rows} {differing} {way} {messages} {rounds} {sent} {came} {delta_messages} {delta_sent} {delta_came} {fetched}"
+    )?)
+}
+
+/// Adds the lines of as many differing rows of these keys: of changed values, and of missing rows; with times or without.
+fn add_cases<R: Clock>(
     rt: &R,
     alloc: Global,
-    counts: &[usize],
-    out: &mut W,
+    sorted: &[String],
+    differing: usize,
+    is_timed: bool,
+    lines: &mut Vec<String>,
 ) -> Result<(), Fault> {
-    writeln!(
-        out,
-        "rows differing way catch_up_us session_us delta_us pull_us rounds bytes delta_bytes fetched joined pull_bytes pulled"
-    )
-    .map_err(|_| Fault::Output)?;
-    for count in counts {
-        let mut sorted = keys(alloc, LOCAL_SEED, *count)?;
-        sorted.sort_unstable();
-        for differing in differing_of(alloc, *count)? {
-            let places = places(alloc, differing, *count)?;
-            let changed = Case::changed(&sorted, &places);
-            for case in [changed, changed.missing()] {
-                write_line(case, &measure(rt, alloc, case)?, out)?;
-            }
-        }
+    let places = places(alloc, differing, sorted.len())?;
+    let places = places.as_slice();
+    for lower in [1, 0] {
+        let case = Case {
+            sorted,
+            places,
+            lower,
+        };
+        let line = if is_timed {
+            line(alloc, case, &measure(rt, alloc, case)?)?
+        } else {
+            session_line(alloc, case)?
+        };
+        lines.push(line)?;
     }
     Ok(())
 }
 
-/// What the sessions of a case take over a wire: a plain one, and one by deltas.
-fn costs(alloc: Global, case: Case<'_>) -> Result<(Cost, Cost), Fault> {
-    let mut peer = case.asked(alloc)?;
-    let mut local = case.asking(alloc)?;
-    let plain = cost_of::<Plain>(alloc, &mut local, &mut peer)?;
-    let less = cost_of::<ByDeltas>(alloc, &mut local, &mut peer)?;
-    Ok((plain, less))
-}
-
-/// Writes the line of the sessions of a case.
-fn write_session<W: Write>(
-    case: Case<'_>,
-    plain: Cost,
-    less: Cost,
-    out: &mut W,
+/// Adds the lines of `count` rows, for each number of rows that differ two; with times or without.
+pub fn add_lines<R: Clock>(
+    rt: &R,
+    alloc: Global,
+    count: usize,
+    is_timed: bool,
+    lines: &mut Vec<String>,
 ) -> Result<(), Fault> {
-    let (rows, differing, way) = (case.sorted.len(), case.places.len(), name_of(case.kind));
-    let (messages, rounds, fetched) = (plain.messages, plain.rounds, plain.fetched);
-    let (sent, came) = (plain.sent, plain.came);
-    let (delta_messages, delta_sent, delta_came) = (less.messages, less.sent, less.came);
-    writeln!(
-        out,
-        "{rows} {differing} {way} {messages} {rounds} {sent} {came} {delta_messages} {delta_sent} {delta_came} {fetched}"
-    )
-    .map_err(|_| Fault::Output)
-}
-
-/// Writes the table of sessions, without times: how many messages and rounds each takes, how many bytes are sent and come, and the same by deltas.
-pub fn write_sessions<W: Write>(alloc: Global, counts: &[usize], out: &mut W) -> Result<(), Fault> {
-    writeln!(
-        out,
-        "rows differing way messages rounds sent came delta_messages delta_sent delta_came fetched"
-    )
-    .map_err(|_| Fault::Output)?;
-    for count in counts {
-        let mut sorted = keys(alloc, LOCAL_SEED, *count)?;
-        sorted.sort_unstable();
-        for differing in differing_of(alloc, *count)? {
-            let places = places(alloc, differing, *count)?;
-            let changed = Case::changed(&sorted, &places);
-            for case in [changed, changed.missing()] {
-                let (plain, less) = costs(alloc, case)?;
-                write_session(case, plain, less, out)?;
-            }
-        }
+    let mut sorted = keys(alloc, LOCAL_SEED, count)?;
+    sorted.sort_unstable();
+    for differing in differing_of(alloc, count)? {
+        add_cases(rt, alloc, &sorted, differing, is_timed, lines)?;
     }
     Ok(())
 }

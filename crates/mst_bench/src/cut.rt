@@ -4,8 +4,10 @@ use crate::clock::{Best, now, rounds};
 use crate::fault::Fault;
 use merkle_diff::parts::{RangeList, reduce_sync_range};
 use std::alloc::{AllocError, Global};
-use std::io::Write;
 use std::rt::Clock;
+
+/// The names of the columns.
+pub const NAMES: &str = "ranges cut_ns";
 
 /// The bounds of a range of numbers, both in it.
 #[derive(Drop)]
@@ -52,8 +54,8 @@ fn time_cut<'a, R: Clock>(
     best.note_since(rt, start)
 }
 
-/// The best time of cutting `count` ranges out of one that they are inside of.
-fn measured<R: Clock>(rt: &R, alloc: Global, count: usize) -> Result<Best, Fault> {
+/// The line of `count` good ranges, which are cut out of one that they are inside of, in nanoseconds a range.
+pub fn line<R: Clock>(rt: &R, alloc: Global, count: usize) -> Result<String, Fault> {
     let inner = apart(alloc, count)?;
     let outer = [Bounds {
         start: 0,
@@ -63,20 +65,6 @@ fn measured<R: Clock>(rt: &R, alloc: Global, count: usize) -> Result<Best, Fault
     for _ in 0..rounds(count) {
         time_cut(rt, alloc, &outer, &inner, &mut best)?;
     }
-    Ok(best)
-}
-
-/// Writes the table of the cut: a line of names, and one for each number of good ranges, in nanoseconds a range.
-pub fn write_table<R: Clock, W: Write>(
-    rt: &R,
-    alloc: Global,
-    counts: &[usize],
-    out: &mut W,
-) -> Result<(), Fault> {
-    writeln!(out, "ranges cut_ns").map_err(|_| Fault::Output)?;
-    for count in counts {
-        let each = measured(rt, alloc, *count)?.each(*count);
-        writeln!(out, "{count} {each}").map_err(|_| Fault::Output)?;
-    }
-    Ok(())
+    let each = best.each(count);
+    Ok(format!(in alloc; "{count} {each}")?)
 }

@@ -17,41 +17,42 @@ mod clock;
 mod cut;
 mod fault;
 mod keys;
-mod loads;
 mod pulls;
+mod replicas;
 mod sample;
 mod sessions;
+mod table;
 mod times;
 
 use arguments::Task;
 use fault::Fault;
-use std::io::{BufWriter, Write};
+use std::env;
 use std::process::ExitCode;
 use std::rt::{Clock, Env};
-use std::{env, io};
 
 /// What the program is called with.
 const USAGE: &str =
     "usage: mst_bench [--time N.. | --time-cut N.. | --time-pull N.. | --time-catch-up N.. | --sessions N..]";
 
-/// Does what the arguments ask for, and prints it.
-fn run<R: AllocGlobal + Clock + Env + Print>(rt: &R) -> Result<(), Fault> {
+/// The lines that the arguments ask for.
+fn lines<R: AllocGlobal + Clock + Env>(rt: &R) -> Result<Vec<String>, Fault> {
     let alloc = rt.alloc();
     let words: Vec<String> = env::args(rt)
         .map_err(|_| Fault::Usage)?
         .skip(1)
         .collect(alloc)?;
-    let task = arguments::task_of(alloc, &words)?;
-    let mut out = BufWriter::new(alloc, io::writer(rt)).map_err(|_| Fault::Memory)?;
-    match task {
-        Task::Answers => answers::write_lines(alloc, &mut out)?,
-        Task::Times(counts) => times::write_table(rt, alloc, &counts, &mut out)?,
-        Task::CutTimes(counts) => cut::write_table(rt, alloc, &counts, &mut out)?,
-        Task::PullTimes(counts) => pulls::write_table(rt, alloc, &counts, &mut out)?,
-        Task::CatchUpTimes(counts) => catch_ups::write_table(rt, alloc, &counts, &mut out)?,
-        Task::Sessions(counts) => catch_ups::write_sessions(alloc, &counts, &mut out)?,
+    match arguments::task_of(alloc, &words)? {
+        Task::Answers => answers::lines(alloc),
+        Task::Table(table, counts) => table::lines(rt, alloc, table, &counts),
     }
-    out.flush().map_err(|_| Fault::Output)
+}
+
+/// Does what the arguments ask for, and prints it.
+fn run<R: AllocGlobal + Clock + Env + Print>(rt: &R) -> Result<(), Fault> {
+    for line in &lines(rt)? {
+        println!(rt; "{line}").map_err(|_| Fault::Output)?;
+    }
+    Ok(())
 }
 
 fn main(rt: HostRuntime) -> ExitCode {

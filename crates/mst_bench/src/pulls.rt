@@ -3,15 +3,14 @@
 use crate::clock::{Best, now, rounds};
 use crate::fault::Fault;
 use crate::keys::{LOCAL_SEED, keys};
-use merkle_digest::SipHasher;
+use crate::replicas::{Numbers, replica_of};
 use merkle_replica::Replica;
 use merkle_search_tree::builder::Builder;
 use std::alloc::Global;
-use std::io::Write;
 use std::rt::Clock;
 
-/// A replica of the default settings.
-type Numbers = Replica<String, u64, SipHasher, 16>;
+/// The names of the columns.
+pub const NAMES: &str = "rows pull_empty_ns pull_other_ns pull_tenth_ns";
 
 /// The keys of a peer with `count` rows and one, at the even places, and between each two of them one of the replica that pulls, in key
 /// order: so the peer's keys span the replica's.
@@ -22,7 +21,7 @@ fn sorted_keys(alloc: Global, count: usize) -> Result<Vec<String>, Fault> {
 }
 
 /// The replica of every second of these keys, from the first or the second on, not hashed: at every tenth of its rows the value `tenth`,
-/// else 1. The keys are different and ascend, so that rows are refused only when out of memory.
+/// else 1.
 fn replica(alloc: Global, sorted: &[String], parity: usize, tenth: u64) -> Result<Numbers, Fault> {
     let mut rows = Vec::new(alloc);
     for (place, key) in sorted.iter().enumerate() {
@@ -31,10 +30,7 @@ fn replica(alloc: Global, sorted: &[String], parity: usize, tenth: u64) -> Resul
             rows.push((key.clone()?, value))?;
         }
     }
-    match Replica::from_rows(alloc, Builder::default(), rows) {
-        Ok(replica) => Ok(replica),
-        Err(_) => Err(Fault::Memory),
-    }
+    replica_of(alloc, rows)
 }
 
 /// Times a pull, the hashing of both trees included.
@@ -91,24 +87,15 @@ impl PullTimes {
     }
 }
 
-/// Writes the table of pulls: a line of names, and one for each number of the peer's rows, in nanoseconds a row of the peer.
-pub fn write_table<R: Clock, W: Write>(
-    rt: &R,
-    alloc: Global,
-    counts: &[usize],
-    out: &mut W,
-) -> Result<(), Fault> {
-    writeln!(out, "rows pull_empty_ns pull_other_ns pull_tenth_ns").map_err(|_| Fault::Output)?;
-    for count in counts {
-        let sorted = sorted_keys(alloc, *count)?;
-        let mut times = PullTimes::new();
-        for _ in 0..rounds(*count) {
-            times.note_round(rt, alloc, &sorted)?;
-        }
-        let empty = times.into_empty.each(*count);
-        let others = times.among_others.each(*count);
-        let tenth = times.of_every_tenth.each(*count);
-        writeln!(out, "{count} {empty} {others} {tenth}").map_err(|_| Fault::Output)?;
+/// The line of a peer with this many rows, in nanoseconds a row of the peer.
+pub fn line<R: Clock>(rt: &R, alloc: Global, count: usize) -> Result<String, Fault> {
+    let sorted = sorted_keys(alloc, count)?;
+    let mut times = PullTimes::new();
+    for _ in 0..rounds(count) {
+        times.note_round(rt, alloc, &sorted)?;
     }
-    Ok(())
+    let empty = times.into_empty.each(count);
+    let others = times.among_others.each(count);
+    let tenth = times.of_every_tenth.each(count);
+    Ok(format!(in alloc; "{count} {empty} {others} {tenth}")?)
 }

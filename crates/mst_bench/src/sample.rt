@@ -7,6 +7,7 @@ use crate::keys;
 use merkle_diff::PageRange;
 use merkle_digest::{RootHash, SipHasher};
 use merkle_search_tree::MerkleSearchTree;
+use merkle_search_tree::builder::Builder;
 use std::alloc::Global;
 
 /// The tree that is measured: texts as keys, numbers as values, the default hasher and level base.
@@ -22,6 +23,25 @@ pub fn tree_of(alloc: Global, keys: Vec<String>, tenth: u64) -> Result<Tree, Fau
         }
     }
     Ok(tree)
+}
+
+/// The rows of these keys in key order, each with the value 1. Each key is copied in its turn, as a store reads it.
+pub fn sorted_rows(alloc: Global, keys: &[String]) -> Result<Vec<(String, u64)>, Fault> {
+    let mut sorted = keys::copies(alloc, keys)?;
+    sorted.sort_unstable();
+    let mut rows = Vec::with_capacity(alloc, sorted.len())?;
+    for key in &sorted {
+        rows.push((key.clone()?, 1))?;
+    }
+    Ok(rows)
+}
+
+/// The tree of rows of different keys in key order, which are refused only when out of memory.
+pub fn loaded(alloc: Global, rows: Vec<(String, u64)>) -> Result<Tree, Fault> {
+    match Tree::from_ascending(alloc, Builder::default(), rows) {
+        Ok(tree) => Ok(tree),
+        Err(_) => Err(Fault::Memory),
+    }
 }
 
 /// The root hash of the tree, which is hashed.

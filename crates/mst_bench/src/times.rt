@@ -5,18 +5,21 @@ ghost use Rattle.std.specs.Prelude.{◌≢◌, None};
 use crate::clock::{Best, now, rounds};
 use crate::fault::Fault;
 use crate::keys::{LOCAL_SEED, copies, keys};
-use crate::loads::LoadTimes;
-use crate::sample::{Sample, Tree, count_ranges, ranges, tree_of};
+use crate::sample::{Sample, Tree, count_ranges, loaded, ranges, sorted_rows, tree_of};
 use merkle_diff::diff;
 use std::alloc::Global;
-use std::io::Write;
 use std::rt::Clock;
+
+/// The names of the columns.
+pub const NAMES: &str =
+    "keys insert_ns load_ns load_root_ns root_ns serialise_ns iterate_ns diff_same_ns diff_other_ns diff_some_ns";
 
 /// The best time of each operation.
 #[derive(Drop)]
 struct Times {
     insert: Best,
-    loads: LoadTimes,
+    load: Best,
+    load_root: Best,
     root: Best,
     serialise: Best,
     iterate: Best,
@@ -48,7 +51,8 @@ impl Times {
     fn new() -> Self {
         Times {
             insert: Best::new(),
-            loads: LoadTimes::new(),
+            load: Best::new(),
+            load_root: Best::new(),
             root: Best::new(),
             serialise: Best::new(),
             iterate: Best::new(),
@@ -75,6 +79,16 @@ impl Times {
         self.iterate.note_since(rt, start)
     }
 
+    /// Makes one round of the loads: of the rows of these keys, which are made before, and then the first root hash.
+    fn note_load<R: Clock>(&mut self, rt: &R, alloc: Global, keys: &[String]) -> Result<(), Fault> {
+        let rows = sorted_rows(alloc, keys)?;
+        let start = now(rt)?;
+        let mut tree = loaded(alloc, rows)?;
+        self.load.note_since(rt, start)?;
+        let _ = tree.root_hash_counted();
+        self.load_root.note_since(rt, start)
+    }
+
     /// Makes all rounds of the operations on one tree of `count` keys.
     fn note_trees<R: Clock>(&mut self, rt: &R, alloc: Global, count: usize) -> Result<(), Fault> {
         let keys = keys(alloc, LOCAL_SEED, count)?;
@@ -88,7 +102,7 @@ impl Times {
     fn note_loads<R: Clock>(&mut self, rt: &R, alloc: Global, count: usize) -> Result<(), Fault> {
         let keys = keys(alloc, LOCAL_SEED, count)?;
         for _ in 0..rounds(count) {
-            self.loads.note_round(rt, alloc, &keys)?;
+            self.note_load(rt, alloc, &keys)?;
         }
         Ok(())
     }
@@ -106,48 +120,22 @@ impl Times {
     }
 }
 
-/// The best times of the operations on `count` keys.
-fn measured<R: Clock>(rt: &R, alloc: Global, count: usize) -> Result<Times, Fault> {
+/// The line of `count` keys, in nanoseconds a key.
+pub fn line<R: Clock>(rt: &R, alloc: Global, count: usize) -> Result<String, Fault> {
     let mut times = Times::new();
     times.note_trees(rt, alloc, count)?;
     times.note_loads(rt, alloc, count)?;
     times.note_diffs(rt, alloc, count)?;
-    Ok(times)
-}
-
-/// Writes the line of `count` keys.
-fn write_line<W: Write>(count: usize, times: &Times, out: &mut W) -> Result<(), Fault> {
     let insert = times.insert.each(count);
-    let load = times.loads.load.each(count);
-    let load_root = times.loads.with_root.each(count);
+    let load = times.load.each(count);
+    let load_root = times.load_root.each(count);
     let root = times.root.each(count);
     let serialise = times.serialise.each(count);
     let iterate = times.iterate.each(count);
     let same = times.diff_same.each(count);
     let other = times.diff_other.each(count);
     let some = times.diff_some.each(count);
-    writeln!(
-        out,
+    Ok(format!(in alloc;
         "{count} {insert} {load} {load_root} {root} {serialise} {iterate} {same} {other} {some}"
-    )
-    .map_err(|_| Fault::Output)
-}
-
-/// Writes the table of the operations: a line of names, and one for each number of keys, in nanoseconds a key.
-pub fn write_table<R: Clock, W: Write>(
-    rt: &R,
-    alloc: Global,
-    counts: &[usize],
-    out: &mut W,
-) -> Result<(), Fault> {
-    writeln!(
-        out,
-        "keys insert_ns load_ns load_root_ns root_ns serialise_ns iterate_ns diff_same_ns diff_other_ns diff_some_ns"
-    )
-    .map_err(|_| Fault::Output)?;
-    for count in counts {
-        let times = measured(rt, alloc, *count)?;
-        write_line(*count, &times, out)?;
-    }
-    Ok(())
+    )?)
 }
