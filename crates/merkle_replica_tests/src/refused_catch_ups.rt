@@ -5,6 +5,7 @@ use merkle_digest::SipHasher;
 use merkle_replica::{CatchUpError, CaughtUp, Replica};
 use merkle_search_tree::builder::Builder;
 use std::alloc::{AllocError, Global};
+use test_maps::Side;
 
 /// A map of texts, whose copies take memory.
 type Texts = Replica<String, u64, SipHasher, 16>;
@@ -12,63 +13,8 @@ type Texts = Replica<String, u64, SipHasher, 16>;
 /// How many keys there are: the numbers below it in three digits.
 const KEYS: usize = 360;
 
-/// A value for each key; 0 where the map lacks the key.
-type Values = [u64; KEYS];
-
-/// How many of their rows we lack: of the 144 numbers that end with 1, 3, 4 or 6 those that 7 doesn't divide.
+/// How many of their 308 rows our 288 lack: of the 144 numbers that end with 1, 3, 4 or 6 those that 7 doesn't divide.
 const LACKED: usize = 124;
-
-/// Our 288 rows: those whose numbers end with 1 or 6 are missing, and at 3 and 4 the values are others than theirs.
-fn ours() -> Values {
-    let mut values = [2; KEYS];
-    for (number, value) in values.iter_mut().enumerate() {
-        match number % 10 {
-            1 | 6 => *value = 0,
-            3 => *value = 1,
-            4 => *value = 3,
-            _ => {}
-        }
-    }
-    values
-}
-
-/// Their 308 rows: those whose numbers 7 divides are missing.
-fn theirs() -> Values {
-    let mut values = [2; KEYS];
-    for (number, value) in values.iter_mut().enumerate() {
-        if number % 7 == 0 {
-            *value = 0;
-        }
-    }
-    values
-}
-
-/// Our values joined with the first of theirs that we lack, this many of them.
-fn joined_first(count: usize) -> Values {
-    let mut values = ours();
-    let mut left = count;
-    for (value, other) in values.iter_mut().zip(&theirs()) {
-        if *other > 0 && *other != *value && left > 0 {
-            *value = (*value).max(*other);
-            left = left.saturating_sub(1);
-        }
-    }
-    values
-}
-
-/// Whether the rows have these values and no others.
-fn are(rows: &[(String, u64)], values: &Values) -> bool {
-    let mut rows = rows.iter();
-    for (number, value) in values.iter().enumerate() {
-        if *value > 0 {
-            match rows.next() {
-                Some(row) if row.0.as_str().parse::<usize>() == Ok(number) && row.1 == *value => {}
-                _ => return false,
-            }
-        }
-    }
-    rows.next().is_none()
-}
 
 /// How many of the rows that were missing a catch-up says that it joined; none where it says it wrongly.
 fn count_of(answer: Result<CaughtUp, CatchUpError>) -> Option<usize> {
@@ -99,12 +45,13 @@ fn catch_up(local: &mut Texts, peer: &mut Texts) -> Result<CaughtUp, CatchUpErro
     local.catch_up(peer)
 }
 
-/// The map of these values.
-fn map_of(alloc: Global, values: &Values) -> Result<Texts, AllocError> {
+/// The map of a side.
+fn map_of(alloc: Global, side: Side) -> Result<Texts, AllocError> {
     let mut map = Texts::new(alloc, Builder::default());
-    for (number, value) in values.iter().enumerate() {
-        if *value > 0 {
-            put(alloc, &mut map, number, *value)?;
+    for number in 0..KEYS {
+        let value = side.value(number);
+        if value > 0 {
+            put(alloc, &mut map, number, value)?;
         }
     }
     Ok(map)
@@ -112,12 +59,12 @@ fn map_of(alloc: Global, values: &Values) -> Result<Texts, AllocError> {
 
 /// Whether a catch-up leaves our rows joined with as many of the rows that are missing as it says, the first ones.
 fn joins_the_first(alloc: Global) -> Result<bool, AllocError> {
-    let mut local = map_of(alloc, &ours())?;
-    let mut peer = map_of(alloc, &theirs())?;
+    let mut local = map_of(alloc, Side::Ours)?;
+    let mut peer = map_of(alloc, Side::Theirs)?;
     let count = count_of(catch_up(&mut local, &mut peer));
     Ok(
-        are(peer.rows(), &theirs())
-            && count.is_some_and(|count| are(local.rows(), &joined_first(count))),
+        Side::Theirs.has(peer.rows(), KEYS, 0)
+            && count.is_some_and(|count| Side::Ours.has(local.rows(), KEYS, count)),
     )
 }
 
