@@ -139,30 +139,74 @@ pub(crate) fn version() -> &'static str {
     unsafe { CStr::from_ptr(mst_version()) }.to_str().unwrap_or_default()
 }
 
-/// A handle that has a tree.
+/// A call that gives back what a handle has.
+type Free = unsafe extern "C" fn(*mut Handle);
+
+/// A handle that has what a call made.
 ///
 /// It is in a cell, since calls that leave the map as it was take a pointer to a mutable handle too.
-pub(crate) struct Tree(UnsafeCell<Handle>);
+struct Owned {
+    handle: UnsafeCell<Handle>,
+    free: Free,
+}
 
-// SAFETY: by mst.h a handle goes from thread to thread where something orders the calls, and to move or lend a value to another thread
-// does. `Tree` isn't `Sync`, since it has a cell: so a call that borrows it is never under way beside another.
-unsafe impl Send for Tree {}
+// SAFETY: by the headers a handle goes from thread to thread where something orders the calls, and to move or lend a value to another thread
+// does. `Owned` isn't `Sync`, since it has a cell: so a call that borrows it is never under way beside another.
+unsafe impl Send for Owned {}
+
+impl Owned {
+    /// What a call makes, which is given a handle that has nothing.
+    fn made(free: Free, call: impl FnOnce(*mut Handle) -> c_int) -> Result<Self, OutOfMemory> {
+        let mut handle = Handle { at: ptr::null_mut() };
+        done_or_no_memory(call(&mut handle))?;
+        Ok(Self { handle: UnsafeCell::new(handle), free })
+    }
+
+    fn get(&self) -> *mut Handle {
+        self.handle.get()
+    }
+
+    fn get_mut(&mut self) -> *mut Handle {
+        self.handle.get_mut()
+    }
+}
+
+impl Drop for Owned {
+    fn drop(&mut self) {
+        // SAFETY: the handle is one that a call of the same header made, and isn't used again.
+        unsafe { (self.free)(self.handle.get_mut()) }
+    }
+}
+
+/// The number that a call writes.
+fn number(call: impl FnOnce(*mut usize) -> c_int) -> Result<usize, OutOfMemory> {
+    let mut number = 0;
+    done_or_no_memory(call(&mut number))?;
+    Ok(number)
+}
+
+/// The 16 bytes that a call writes.
+fn digest(call: impl FnOnce(*mut u8) -> c_int) -> Result<[u8; 16], Refused> {
+    let mut digest = [0; 16];
+    done(call(digest.as_mut_ptr()))?;
+    Ok(digest)
+}
+
+/// A handle that has a tree.
+pub(crate) struct Tree(Owned);
 
 impl Tree {
     /// The empty tree with these settings; the page format is 1 or 2, and keys are fed in the way 0, 1 or 2.
     pub(crate) fn new(key: &[u8; 16], level_base: u8, page_format: u8, key_feed: u8) -> Result<Self, OutOfMemory> {
-        let mut handle = Handle { at: ptr::null_mut() };
         // SAFETY: the handle has no tree, and the key is of 16 bytes.
-        done_or_no_memory(unsafe { mst_tree_new_as(&mut handle, key.as_ptr(), level_base, page_format, key_feed) })?;
-        Ok(Self(UnsafeCell::new(handle)))
+        let new = |out| unsafe { mst_tree_new_as(out, key.as_ptr(), level_base, page_format, key_feed) };
+        Owned::made(mst_tree_free, new).map(Self)
     }
 
     /// A copy of the tree.
     pub(crate) fn copy(&self) -> Result<Self, OutOfMemory> {
-        let mut copy = Handle { at: ptr::null_mut() };
         // SAFETY: both are handles, of which the second has no tree, and no other call has the first.
-        done_or_no_memory(unsafe { mst_tree_clone(self.0.get(), &mut copy) })?;
-        Ok(Self(UnsafeCell::new(copy)))
+        Owned::made(mst_tree_free, |out| unsafe { mst_tree_clone(self.0.get(), out) }).map(Self)
     }
 
     /// Sets a key to the digest of a value.
@@ -199,27 +243,20 @@ impl Tree {
 
     /// The digest of the value at a key.
     pub(crate) fn find(&self, key: &[u8]) -> Result<[u8; 16], Refused> {
-        let mut digest = [0; 16];
-        // SAFETY: the key is a slice, `digest` is of 16 bytes, and no other call has the handle.
-        done(unsafe { mst_tree_find(self.0.get(), key.as_ptr(), key.len(), digest.as_mut_ptr()) })?;
-        Ok(digest)
+        // SAFETY: the key is a slice, `out` is of 16 bytes, and no other call has the handle.
+        digest(|out| unsafe { mst_tree_find(self.0.get(), key.as_ptr(), key.len(), out) })
     }
 
     /// How many keys there are.
     pub(crate) fn len(&self) -> Result<usize, OutOfMemory> {
-        let mut len = 0;
-        // SAFETY: `len` is written to, and no other call has the handle.
-        done_or_no_memory(unsafe { mst_tree_len(self.0.get(), &mut len) })?;
-        Ok(len)
+        // SAFETY: `out` is written to, and no other call has the handle.
+        number(|out| unsafe { mst_tree_len(self.0.get(), out) })
     }
 
     /// The root hash.
     pub(crate) fn root_hash(&mut self) -> [u8; 16] {
-        let mut root = [0; 16];
-        // SAFETY: `root` is of 16 bytes.
-        let status = unsafe { mst_tree_root_hash(self.0.get_mut(), root.as_mut_ptr()) };
-        assert_eq!(status, DONE, "mst_tree_root_hash refuses nothing of a tree");
-        root
+        // SAFETY: `out` is of 16 bytes.
+        digest(|out| unsafe { mst_tree_root_hash(self.0.get_mut(), out) }).expect("the call refuses nothing of a tree")
     }
 
     /// The list of page ranges, of about `guess` bytes.
@@ -237,26 +274,15 @@ impl Tree {
     }
 }
 
-impl Drop for Tree {
-    fn drop(&mut self) {
-        // SAFETY: the handle is one that a call made, and isn't used again.
-        unsafe { mst_tree_free(self.0.get_mut()) }
-    }
-}
-
-/// A handle that has a replica, in a cell as that of a tree.
-pub(crate) struct Replica(UnsafeCell<Handle>);
-
-// SAFETY: as of `Tree`, whose rules are those of `mst_replica.h` too.
-unsafe impl Send for Replica {}
+/// A handle that has a replica.
+pub(crate) struct Replica(Owned);
 
 impl Replica {
     /// The replica without rows with these settings; the page format is 1 or 2.
     pub(crate) fn new(key: &[u8; 16], level_base: u8, page_format: u8) -> Result<Self, OutOfMemory> {
-        let mut handle = Handle { at: ptr::null_mut() };
         // SAFETY: the handle has no replica, and the key is of 16 bytes.
-        done_or_no_memory(unsafe { mst_replica_new_with(&mut handle, key.as_ptr(), level_base, page_format) })?;
-        Ok(Self(UnsafeCell::new(handle)))
+        let new = |out| unsafe { mst_replica_new_with(out, key.as_ptr(), level_base, page_format) };
+        Owned::made(mst_replica_free, new).map(Self)
     }
 
     /// Joins a value at a key.
@@ -288,20 +314,15 @@ impl Replica {
 
     /// How many rows there are.
     pub(crate) fn len(&self) -> usize {
-        let mut len = 0;
-        // SAFETY: `len` is written to, and no other call has the handle.
-        let status = unsafe { mst_replica_len(self.0.get(), &mut len) };
-        assert_eq!(status, DONE, "mst_replica_len refuses nothing of a replica");
-        len
+        // SAFETY: `out` is written to, and no other call has the handle.
+        number(|out| unsafe { mst_replica_len(self.0.get(), out) }).expect("the call refuses nothing of a replica")
     }
 
     /// The root hash.
     pub(crate) fn root_hash(&mut self) -> [u8; 16] {
-        let mut root = [0; 16];
-        // SAFETY: `root` is of 16 bytes.
-        let status = unsafe { mst_replica_root_hash(self.0.get_mut(), root.as_mut_ptr()) };
-        assert_eq!(status, DONE, "mst_replica_root_hash refuses nothing of a replica");
-        root
+        // SAFETY: `out` is of 16 bytes.
+        digest(|out| unsafe { mst_replica_root_hash(self.0.get_mut(), out) })
+            .expect("the call refuses nothing of a replica")
     }
 
     /// The list of rows, of about `guess` bytes.
@@ -321,9 +342,8 @@ impl Replica {
 
     /// The first question of a catch-up, which begins.
     pub(crate) fn ask(&mut self) -> Result<Vec<u8>, OutOfMemory> {
-        let mut len = 0;
-        // SAFETY: `len` is written to.
-        done_or_no_memory(unsafe { mst_replica_ask(self.0.get_mut(), &mut len) })?;
+        // SAFETY: `out` is written to.
+        let len = number(|out| unsafe { mst_replica_ask(self.0.get_mut(), out) })?;
         self.message(len)
     }
 
@@ -347,18 +367,8 @@ impl Replica {
     }
 }
 
-impl Drop for Replica {
-    fn drop(&mut self) {
-        // SAFETY: the handle is one that a call made, and isn't used again.
-        unsafe { mst_replica_free(self.0.get_mut()) }
-    }
-}
-
-/// A handle that has a side of a sync, in a cell as that of a tree.
-pub(crate) struct Side(UnsafeCell<Handle>);
-
-// SAFETY: as of `Tree`, whose rules are those of `mst_sync.h` too.
-unsafe impl Send for Side {}
+/// A handle that has a side of a sync.
+pub(crate) struct Side(Owned);
 
 /// The reply to a question, or the list of what it needs.
 pub(crate) enum Answered {
@@ -369,10 +379,9 @@ pub(crate) enum Answered {
 impl Side {
     /// The side without keys with these settings; the page format is 1 or 2.
     pub(crate) fn new(key: &[u8; 16], level_base: u8, page_format: u8) -> Result<Self, OutOfMemory> {
-        let mut handle = Handle { at: ptr::null_mut() };
         // SAFETY: the handle has no side, and the key is of 16 bytes.
-        done_or_no_memory(unsafe { mst_sync_new_with(&mut handle, key.as_ptr(), level_base, page_format) })?;
-        Ok(Self(UnsafeCell::new(handle)))
+        let new = |out| unsafe { mst_sync_new_with(out, key.as_ptr(), level_base, page_format) };
+        Owned::made(mst_sync_free, new).map(Self)
     }
 
     /// Sets a key to the digest of a value.
@@ -391,34 +400,26 @@ impl Side {
 
     /// The digest of the value at a key.
     pub(crate) fn find(&self, key: &[u8]) -> Result<[u8; 16], Refused> {
-        let mut digest = [0; 16];
-        // SAFETY: the key is a slice, `digest` is of 16 bytes, and no other call has the handle.
-        done(unsafe { mst_sync_find(self.0.get(), key.as_ptr(), key.len(), digest.as_mut_ptr()) })?;
-        Ok(digest)
+        // SAFETY: the key is a slice, `out` is of 16 bytes, and no other call has the handle.
+        digest(|out| unsafe { mst_sync_find(self.0.get(), key.as_ptr(), key.len(), out) })
     }
 
     /// How many keys there are.
     pub(crate) fn len(&self) -> Result<usize, OutOfMemory> {
-        let mut len = 0;
-        // SAFETY: `len` is written to, and no other call has the handle.
-        done_or_no_memory(unsafe { mst_sync_len(self.0.get(), &mut len) })?;
-        Ok(len)
+        // SAFETY: `out` is written to, and no other call has the handle.
+        number(|out| unsafe { mst_sync_len(self.0.get(), out) })
     }
 
     /// The root hash.
     pub(crate) fn root_hash(&mut self) -> [u8; 16] {
-        let mut root = [0; 16];
-        // SAFETY: `root` is of 16 bytes.
-        let status = unsafe { mst_sync_root_hash(self.0.get_mut(), root.as_mut_ptr()) };
-        assert_eq!(status, DONE, "mst_sync_root_hash refuses nothing of a side");
-        root
+        // SAFETY: `out` is of 16 bytes.
+        digest(|out| unsafe { mst_sync_root_hash(self.0.get_mut(), out) }).expect("the call refuses nothing of a side")
     }
 
     /// The first question of a catch-up, which begins.
     pub(crate) fn ask(&mut self) -> Result<Vec<u8>, OutOfMemory> {
-        let mut len = 0;
-        // SAFETY: `len` is written to.
-        done_or_no_memory(unsafe { mst_sync_ask(self.0.get_mut(), &mut len) })?;
+        // SAFETY: `out` is written to.
+        let len = number(|out| unsafe { mst_sync_ask(self.0.get_mut(), out) })?;
         self.message(len)
     }
 
@@ -483,13 +484,6 @@ impl Side {
         // SAFETY: no other call has the handle, and `out` is memory of `len` bytes that nothing else has.
         let list = written(len, |out, len, needed| unsafe { mst_sync_list(self.0.get(), out, len, needed) });
         list.map_err(|_| OutOfMemory)
-    }
-}
-
-impl Drop for Side {
-    fn drop(&mut self) {
-        // SAFETY: the handle is one that a call made, and isn't used again.
-        unsafe { mst_sync_free(self.0.get_mut()) }
     }
 }
 

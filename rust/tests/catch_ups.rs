@@ -53,10 +53,7 @@ fn come_to_hold_the_join<L: Side, R: Side>() {
 
 #[test]
 fn both_come_to_hold_the_join() {
-    come_to_hold_the_join::<Replica, Replica>();
-    come_to_hold_the_join::<Replica, Store>();
-    come_to_hold_the_join::<Store, Replica>();
-    come_to_hold_the_join::<Store, Store>();
+    of_each_pair!(come_to_hold_the_join);
 }
 
 fn come_to_hold_a_row_more<L: Side, R: Side>() {
@@ -80,10 +77,7 @@ fn come_to_hold_a_row_more<L: Side, R: Side>() {
 
 #[test]
 fn rows_that_are_changed_missing_or_more() {
-    come_to_hold_a_row_more::<Replica, Replica>();
-    come_to_hold_a_row_more::<Replica, Store>();
-    come_to_hold_a_row_more::<Store, Replica>();
-    come_to_hold_a_row_more::<Store, Store>();
+    of_each_pair!(come_to_hold_a_row_more);
 }
 
 fn under_other_settings_that_both_have<S: Side>() {

@@ -52,13 +52,22 @@ fn tree_of(rows: &Model, (hasher, base, format): &Settings) -> SyncTree {
     tree
 }
 
+/// How many rows are drawn at most.
+const SIZES: [u64; 6] = [0, 1, 5, 60, 400, 3000];
+
+/// Rows that are drawn, of which a tree is told, and what other programs then made of them.
+fn drawn_pair(draw: &mut impl FnMut(u64) -> u64, size: u64) -> (Model, Model) {
+    let told = drawn(draw, size);
+    let rows = written(&told, draw);
+    (told, rows)
+}
+
 #[test]
 fn verify_names_the_keys_that_differ() {
     let mut draw = draws(23);
     for settings in settings() {
-        for size in [0, 1, 5, 60, 400, 3000].repeat(3) {
-            let told = drawn(&mut draw, size);
-            let mut rows = written(&told, &mut draw);
+        for size in SIZES.repeat(3) {
+            let (told, mut rows) = drawn_pair(&mut draw, size);
             let mut tree = tree_of(&told, &settings);
             let before = tree.root_hash();
             let keys = tree.verify(&mut rows).unwrap();
@@ -89,9 +98,8 @@ fn verify_of_rows_that_are_gone_or_new() {
 fn a_rescan_sets_the_rows_of_a_range_and_no_others() {
     let mut draw = draws(29);
     for settings in settings() {
-        for size in [0, 1, 5, 60, 400, 3000].repeat(10) {
-            let told = drawn(&mut draw, size);
-            let mut rows = written(&told, &mut draw);
+        for size in SIZES.repeat(10) {
+            let (told, mut rows) = drawn_pair(&mut draw, size);
             let (first, end) = (key(&mut draw), key(&mut draw));
             let range = match draw(3) {
                 0 => Range::ALL,

@@ -242,12 +242,18 @@ fn the_session_of_two_stores() {
     assert_eq!((ours.0.len(), ours.0.is_empty(), ours.0.digest("dog")), (3, false, None));
 }
 
+/// Two sides with rows that are drawn, and these.
+fn drawn_sides(seed: u64) -> ([Table; 2], [Side; 2]) {
+    let mut draw = draws(seed);
+    let tables = [drawn(&mut draw), drawn(&mut draw)];
+    let sides = [side(&tables[0]), side(&tables[1])];
+    (tables, sides)
+}
+
 #[test]
 fn random_rows_both_ways() {
     for seed in 1..60 {
-        let mut draw = draws(seed);
-        let tables = [drawn(&mut draw), drawn(&mut draw)];
-        let [mut left, mut right] = [0, 1].map(|at| side(&tables[at]));
+        let (tables, [mut left, mut right]) = drawn_sides(seed);
         let differing = tables[1].iter().filter(|(key, register)| tables[0].get(*key) != Some(register)).count();
         assert_eq!(by_steps(&mut left, |question| reply_of(&mut right, question)).unwrap(), differing);
         by_steps(&mut right, |question| reply_of(&mut left, question)).unwrap();
@@ -292,9 +298,7 @@ fn reply_by_hand((tree, rows): &mut Side, question: &[u8]) -> Result<Vec<u8>, Fa
 #[test]
 fn catch_ups_by_calls_that_read_no_rows() {
     for seed in 1..20 {
-        let mut draw = draws(seed);
-        let tables = [drawn(&mut draw), drawn(&mut draw)];
-        let [mut left, mut right] = [0, 1].map(|at| side(&tables[at]));
+        let (tables, [mut left, mut right]) = drawn_sides(seed);
         let mut question = left.0.ask().unwrap();
         let came = loop {
             match left.0.take(&reply_by_hand(&mut right, &question).unwrap()).unwrap() {

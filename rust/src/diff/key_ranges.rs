@@ -1,3 +1,4 @@
+use super::checked;
 use crate::{
     bytes::{seen_again, Key},
     list::{keyed_list, sent_list},
@@ -87,21 +88,7 @@ impl<K: Key> KeyRanges<K> {
     /// The list that a peer sent. Any bytes may be given: they are refused where they are no list of key ranges, or where a key in them is
     /// none of the type, a first key is above a last one, or the ranges don't ascend or two of them meet.
     pub fn from_bytes(list: impl Into<Vec<u8>>) -> Result<Self, Malformed> {
-        let list = list.into();
-        if !list.starts_with(b"MSTk") {
-            return Err(Malformed);
-        }
-        let (mut at, mut before) = (0, None);
-        while let Some((start, end, _)) = sys::next_range(&list, &mut at).map_err(|_| Malformed)? {
-            if before.is_some_and(|end| end >= start) || start > end {
-                return Err(Malformed);
-            }
-            if K::seen(start).is_none() || K::seen(end).is_none() {
-                return Err(Malformed);
-            }
-            before = Some(end);
-        }
-        Ok(Self::of_list(list))
+        checked::<K>(list.into(), b"MSTk", true).map(Self::of_list)
     }
 
     fn item((start, end, _): sys::Entry<'_>) -> DiffRange<'_, K> {

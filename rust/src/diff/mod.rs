@@ -120,6 +120,23 @@ pub fn unshared<L: Key<Seen = K::Seen>, K: Key>(
     KeyRanges::of_list(found.into_bytes())
 }
 
+/// The bytes of a peer, if they are a list with this mark of ranges between keys of the type, none of which ends before it starts; and if `ascend`, each
+/// starts after the end of the one before.
+fn checked<K: Key>(list: Vec<u8>, mark: &[u8; 4], ascend: bool) -> Result<Vec<u8>, Malformed> {
+    if !list.starts_with(mark) {
+        return Err(Malformed);
+    }
+    let (mut at, mut before) = (0, None);
+    while let Some((start, end, _)) = sys::next_range(&list, &mut at).map_err(|_| Malformed)? {
+        let is_behind = !ascend || before.is_none_or(|before| before < start);
+        if !is_behind || start > end || K::seen(start).is_none() || K::seen(end).is_none() {
+            return Err(Malformed);
+        }
+        before = Some(end);
+    }
+    Ok(list)
+}
+
 /// The bytes of a page range.
 fn entry<'a, K: Key>(range: PageRange<'a, K>) -> (&'a [u8], &'a [u8], [u8; 16]) {
     (range.start().as_ref(), range.end().as_ref(), *range.hash().as_bytes())

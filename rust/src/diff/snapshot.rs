@@ -1,4 +1,4 @@
-use super::{OwnedPageRange, PageRange};
+use super::{checked, OwnedPageRange, PageRange};
 use crate::{
     bytes::Key,
     list::{self, keyed_list, sent_list},
@@ -30,17 +30,7 @@ impl<K: Key> PageRangeSnapshot<K> {
     /// The list that a peer sent. Any bytes may be given: they are refused where they are no list of page ranges, or where a key in
     /// them is none of the type, or a first key is above a last one.
     pub fn from_bytes(list: impl Into<Vec<u8>>) -> Result<Self, Malformed> {
-        let list = list.into();
-        if !list.starts_with(MARK) {
-            return Err(Malformed);
-        }
-        let mut at = 0;
-        while let Some((start, end, _)) = sys::next_range(&list, &mut at).map_err(|_| Malformed)? {
-            if start > end || K::seen(start).is_none() || K::seen(end).is_none() {
-                return Err(Malformed);
-            }
-        }
-        Ok(Self::of_list(list))
+        checked::<K>(list.into(), MARK, false).map(Self::of_list)
     }
 
     fn item((start, end, hash): sys::Entry<'_>) -> PageRange<'_, K> {

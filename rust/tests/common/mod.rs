@@ -230,6 +230,16 @@ impl Side for Store {
     }
 }
 
+/// Calls a function of two kinds of sides with each pair of them.
+macro_rules! of_each_pair {
+    ($call:ident) => {
+        $call::<Replica, Replica>();
+        $call::<Replica, Store>();
+        $call::<Store, Replica>();
+        $call::<Store, Store>();
+    };
+}
+
 /// Makes tests of each kind of side.
 macro_rules! of_each_kind {
     ($($name:ident,)*) => {
