@@ -1,4 +1,5 @@
 """A model of the calls of c/mst.h, written from its comments: dicts from keys to digests under handles, and what each call answers."""
+import functools
 import struct
 
 from soak_parts import lists
@@ -16,6 +17,14 @@ class Handle:
 
     def tree(self):
         return self.settings.tree(self.digests)
+
+
+def of_a_tree(step):
+    """A step on the tree of a handle, which has to have one."""
+    @functools.wraps(step)
+    def checked(self, slot, *words):
+        return step(self, self.at[slot], *words) if self.at[slot] else (BAD_ARGUMENT, None)
+    return checked
 
 
 class Handles:
@@ -43,70 +52,69 @@ class Handles:
         self.at[slot] = None
         return None, None
 
-    def upsert(self, slot, key, value):
-        return self.upsert_digest(slot, key, self.at[slot] and self.at[slot].settings.digest(value))
-
-    def upsert_digest(self, slot, key, digest):
-        if not self.at[slot]:
-            return BAD_ARGUMENT, None
-        self.at[slot].digests[key] = digest
+    @of_a_tree
+    def upsert(self, held, key, value):
+        held.digests[key] = held.settings.digest(value)
         return DONE, None
 
-    def remove(self, slot, key):
-        if not self.at[slot]:
-            return BAD_ARGUMENT, None
-        return (ABSENT if self.at[slot].digests.pop(key, None) is None else DONE), None
+    @of_a_tree
+    def upsert_digest(self, held, key, digest):
+        held.digests[key] = digest
+        return DONE, None
 
-    def load(self, slot, given):
-        if not self.at[slot]:
-            return BAD_ARGUMENT, None
+    @of_a_tree
+    def remove(self, held, key):
+        return (ABSENT if held.digests.pop(key, None) is None else DONE), None
+
+    @of_a_tree
+    def load(self, held, given):
         rows = lists.rows(given)
         if rows is None:
             return MALFORMED, None
-        self.at[slot].digests = {key: self.at[slot].settings.digest(value) for key, value in rows}
+        held.digests = {key: held.settings.digest(value) for key, value in rows}
         return DONE, None
 
-    def upsert_rows(self, slot, given):
-        if not self.at[slot]:
-            return BAD_ARGUMENT, None
+    @of_a_tree
+    def upsert_rows(self, held, given):
         rows = lists.read(lists.ROWS, given)
         if rows is None:
             return MALFORMED, None
-        self.at[slot].digests.update((key, self.at[slot].settings.digest(value)) for key, value in rows)
+        held.digests.update((key, held.settings.digest(value)) for key, value in rows)
         return DONE, len(rows)
 
-    def load_digests(self, slot, given):
-        if not self.at[slot]:
-            return BAD_ARGUMENT, None
+    @of_a_tree
+    def load_digests(self, held, given):
         rows = lists.digests(given)
         if rows is None:
             return MALFORMED, None
-        self.at[slot].digests = dict(rows)
+        held.digests = dict(rows)
         return DONE, None
 
-    def find(self, slot, key):
-        if not self.at[slot]:
-            return BAD_ARGUMENT, None
-        found = self.at[slot].digests.get(key)
+    @of_a_tree
+    def find(self, held, key):
+        found = held.digests.get(key)
         return (ABSENT if found is None else DONE), found
 
-    def count(self, slot):
-        return (DONE, len(self.at[slot].digests)) if self.at[slot] else (BAD_ARGUMENT, None)
+    @of_a_tree
+    def count(self, held):
+        return DONE, len(held.digests)
 
-    def root_hash(self, slot):
-        return (DONE, self.at[slot].tree()[0]) if self.at[slot] else (BAD_ARGUMENT, None)
+    @of_a_tree
+    def root_hash(self, held):
+        return DONE, held.tree()[0]
 
-    def page_ranges(self, slot):
-        return (DONE, lists.written(lists.PAGE_RANGES, self.at[slot].tree()[1])) if self.at[slot] else (BAD_ARGUMENT, None)
+    @of_a_tree
+    def page_ranges(self, held):
+        return DONE, lists.written(lists.PAGE_RANGES, held.tree()[1])
 
-    def digests(self, slot):
-        return (DONE, lists.written(lists.DIGESTS, sorted(self.at[slot].digests.items()))) if self.at[slot] else (BAD_ARGUMENT, None)
+    @of_a_tree
+    def digests(self, held):
+        return DONE, lists.written(lists.DIGESTS, sorted(held.digests.items()))
 
-    def pages(self, slot):
+    @of_a_tree
+    def pages(self, held):
         """The pages of a tree that was hashed right before."""
-        if not self.at[slot]:
-            return BAD_ARGUMENT, None
-        return DONE, lists.written(lists.PAGES, [(entry,) for entry in self.at[slot].settings.pages_of(self.at[slot].digests)])
+        return DONE, lists.written(lists.PAGES, [(entry,) for entry in held.settings.pages_of(held.digests)])
 
     def diff(self, local, peer):
         """The comparison of two lists of any bytes."""
