@@ -7,32 +7,22 @@ use Rattle.examples.proofs.messages.spread.Goals as goal
 
 pub spreading-preserved : goal.spreading-preserved
 spreading-preserved g c =
-    let laws = g.H.RowHasher.laws in
-    let xs = c.spreading.others in
-    let i = c.spreading.i in
+    let low : c.spreading.i < length c.spreading.others = let t = c.spreading-test.true in omega arith in
     let d = c.index-others-i.result in
-    let low : i < length xs = let t = c.spreading-test.true in omega arith in
-    let x' = c.catch_up_by_messages.new.replica in
-    let hub = c.spreading.hub in
-    let hub' = c.catch_up_by_messages.new.peer in
+    let new = c.catch_up_by_messages.new in
     let e = c.catch_up_by_messages.ensures in
-    spreads laws c.args.hub.now c.args.others.now hub hub' xs i d x' low (rows_alone (get_or xs i d) x' e.settings) (same_side hub hub' e.peer_rows e.peer_settings)
-    c.in-Ok.field-0 c.in-Ok.ensures.joined c.spreading.invariant
+    spreads _ c.args.hub.now _ c.spreading.hub new.peer _ _ d new.replica low (rows_alone (get_or c.spreading.others c.spreading.i d) new.replica e.settings)
+    (same_side c.spreading.hub new.peer e.peer_rows e.peer_settings) _ c.in-Ok.ensures.joined c.spreading.invariant
 
 pub returns-in-Err-clause-stopped : goal.returns-in-Err-clause-stopped
 returns-in-Err-clause-stopped g c =
-    let laws = g.H.RowHasher.laws in
-    let xs = c.spreading.others in
-    let i = c.spreading.i in
+    let low : c.spreading.i < length c.spreading.others = let t = c.spreading-test.true in omega arith in
     let d = c.index-others-i.result in
-    let low : i < length xs = let t = c.spreading-test.true in omega arith in
-    let x' = c.catch_up_by_messages.new.replica in
-    let hub = c.spreading.hub in
-    let hub' = c.catch_up_by_messages.new.peer in
+    let new = c.catch_up_by_messages.new in
     let e = c.catch_up_by_messages.ensures in (
       let t = c.spreading-test.true in omega arith,
-      spreading_stops laws c.args.hub.now c.args.others.now hub hub' xs i d x' low (rows_alone (get_or xs i d) x' e.settings) (same_side hub hub' e.peer_rows e.peer_settings)
-          c.in-Err.fault c.in-Err.ensures.refused c.spreading.invariant,
+      spreading_stops _ c.args.hub.now _ c.spreading.hub new.peer _ _ d new.replica low (rows_alone (get_or c.spreading.others c.spreading.i d) new.replica e.settings)
+          (same_side c.spreading.hub new.peer e.peer_rows e.peer_settings) _ c.in-Err.ensures.refused c.spreading.invariant,
     )
 
 pub returns-clause-sessions : goal.returns-clause-sessions
