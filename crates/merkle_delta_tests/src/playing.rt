@@ -30,11 +30,11 @@ impl Cost {
     }
 }
 
-/// A catch-up by deltas that waits for a reply.
+/// A catch-up that waits for a reply, with what it knows of deltas if it goes by them.
 #[derive(Drop)]
 pub(crate) struct Session {
     session: CatchingUp<String, u64>,
-    pub(crate) deltas: Deltas,
+    deltas: Option<Deltas>,
 }
 
 /// What comes after a reply: the next message, or the rows.
@@ -45,10 +45,10 @@ pub(crate) enum Step {
 }
 
 impl Session {
-    /// The session of a side that begins, and its first message.
+    /// The session by deltas of a side that begins, and its first message.
     pub(crate) fn begin(alloc: Global, local: &Rows) -> Result<(Self, Vec<u8>), AllocError> {
         let (session, message) = CatchingUp::begin(alloc, local)?;
-        let deltas = Deltas::new();
+        let deltas = Some(Deltas::new());
         Ok((Session { session, deltas }, message))
     }
 
@@ -72,10 +72,15 @@ impl Session {
             session,
             mut deltas,
         } = self;
-        let plain = match deltas.hear(alloc, reply)? {
-            Heard::Again(question) => return Ok(Step::Ask(Session { session, deltas }, question)),
-            Heard::Reply(plain) => plain,
-        };
+        let mut plain = reply;
+        if let Some(known) = &mut deltas {
+            match known.hear(alloc, plain)? {
+                Heard::Again(question) => {
+                    return Ok(Step::Ask(Session { session, deltas }, question));
+                }
+                Heard::Reply(heard) => plain = heard,
+            }
+        }
         match session.take(local, &plain)? {
             Next::Ask(session, question) => {
                 let message = message_for(alloc, local, &session, &mut deltas, question)?;
@@ -91,9 +96,12 @@ fn message_for(
     alloc: Global,
     local: &mut Rows,
     session: &CatchingUp<String, u64>,
-    deltas: &mut Deltas,
+    deltas: &mut Option<Deltas>,
     question: Vec<u8>,
 ) -> Result<Vec<u8>, AllocError> {
+    let Some(deltas) = deltas else {
+        return Ok(question);
+    };
     let mut own = None;
     if deltas.are_known() {
         own = session.own_reply(local, deltas.pay())?;
@@ -125,21 +133,36 @@ pub(crate) fn answer(
     Ok(tell(alloc, checksums, plain)?)
 }
 
-/// The rows that a session by deltas brings from a peer whose plain replies end at this many bytes, and what it took. It fails if a reply tells anything
-/// else than the plain one that it was made of.
-pub(crate) fn by_deltas(
+/// The peer's reply to a message by deltas, which tells nothing else than the plain one that it is made of.
+fn told(
     alloc: Global,
+    deltas: &Deltas,
+    peer: &mut Rows,
+    message: &[u8],
+    most_bytes: usize,
+) -> Result<Vec<u8>, Fail> {
+    let (plain, reply) = answer_in_full(alloc, peer, message, most_bytes)?;
+    if !deltas.tells_only(alloc, &reply, &plain)? {
+        return Err(Fail::new("a reply tells other bytes"));
+    }
+    Ok(reply)
+}
+
+/// The rows that a session brings from a peer whose plain replies end at this many bytes, and what it took.
+fn played(
+    alloc: Global,
+    begun: (Session, Vec<u8>),
     local: &mut Rows,
     peer: &mut Rows,
     most_bytes: usize,
 ) -> Result<(Vec<(String, u64)>, Cost), Fail> {
     let mut cost = Cost::default();
-    let (mut session, mut message) = Session::begin(alloc, local)?;
+    let (mut session, mut message) = begun;
     for _message in 0..MOST_MESSAGES {
-        let (plain, reply) = answer_in_full(alloc, peer, &message, most_bytes)?;
-        if !session.deltas.tells_only(alloc, &reply, &plain)? {
-            return Err(Fail::new("a reply tells other bytes"));
-        }
+        let reply = match &session.deltas {
+            Some(deltas) => told(alloc, deltas, peer, &message, most_bytes)?,
+            None => answer_within(alloc, peer, &message, most_bytes)?,
+        };
         cost.add(&message, &reply);
         match session.hear(alloc, local, reply)? {
             Step::Ask(next, question) => {
@@ -152,25 +175,28 @@ pub(crate) fn by_deltas(
     Err(Fail::new("no end"))
 }
 
-/// The rows that a session without deltas brings, and what it took.
+/// The same of a session by deltas.
+pub(crate) fn by_deltas(
+    alloc: Global,
+    local: &mut Rows,
+    peer: &mut Rows,
+    most_bytes: usize,
+) -> Result<(Vec<(String, u64)>, Cost), Fail> {
+    let begun = Session::begin(alloc, local)?;
+    played(alloc, begun, local, peer, most_bytes)
+}
+
+/// The same of a session without deltas.
 pub(crate) fn plainly(
     alloc: Global,
     local: &mut Rows,
     peer: &mut Rows,
     most_bytes: usize,
 ) -> Result<(Vec<(String, u64)>, Cost), Fail> {
-    let mut cost = Cost::default();
-    let (mut session, mut message) = CatchingUp::begin(alloc, local)?;
-    for _message in 0..MOST_MESSAGES {
-        let reply = answer_within(alloc, peer, &message, most_bytes)?;
-        cost.add(&message, &reply);
-        match session.take(local, &reply)? {
-            Next::Ask(next, question) => {
-                session = next;
-                message = question;
-            }
-            Next::Came(rows) => return Ok((rows, cost)),
-        }
-    }
-    Err(Fail::new("no end"))
+    let (session, message) = CatchingUp::begin(alloc, local)?;
+    let plain = Session {
+        session,
+        deltas: None,
+    };
+    played(alloc, (plain, message), local, peer, most_bytes)
 }
