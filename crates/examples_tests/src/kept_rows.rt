@@ -51,6 +51,12 @@ fn shelf_of(alloc: Global, rows: &[Row]) -> Result<Shelf<String, u64>, Fail> {
     }
 }
 
+/// The tree and the shelf of a peer with the rows of `0..count`.
+fn peer_of(alloc: Global, count: u64) -> Result<(Tree, Shelf<String, u64>), Fail> {
+    let all = numbers(alloc, count, count)?;
+    Ok((tree_of(alloc, &all)?, shelf_of(alloc, &all)?))
+}
+
 /// The peer's reply to a message.
 fn reply_of(
     alloc: Global,
@@ -88,33 +94,36 @@ fn brought(
     Err(Fail::new("no end"))
 }
 
+/// The rows that a side that lacks the row of 1234 brings from a peer of 2,000 rows, and the bytes that the peer said.
+fn brought_of_one(
+    alloc: Global,
+    peer: &mut Tree,
+    shelf: &Shelf<String, u64>,
+) -> Result<(Vec<Row>, usize), Fail> {
+    let mut local = tree_of(alloc, &numbers(alloc, 2000, 1234)?)?;
+    brought(alloc, &mut local, 1999, peer, shelf)
+}
+
+/// Whether the row of 1234 is the only one.
+fn is_one(rows: &[Row]) -> bool {
+    rows.len() == 1 && rows[0].0.as_str() == "001234"
+}
+
 #[test]
 fn one_row_of_many_is_brought_by_trees(rt: HostRuntime) -> Result<(), Fail> {
-    let alloc = rt.alloc();
-    let all = numbers(alloc, 2000, 2000)?;
-    let mut peer = tree_of(alloc, &all)?;
-    let shelf = shelf_of(alloc, &all)?;
-    let some = numbers(alloc, 2000, 1234)?;
-    let mut local = tree_of(alloc, &some)?;
-    let (rows, bytes) = brought(alloc, &mut local, 1999, &mut peer, &shelf)?;
-    assert_eq!(rt; rows.len(), 1);
-    assert_eq!(rt; rows[0].0.as_str(), "001234");
+    let (mut peer, shelf) = peer_of(rt.alloc(), 2000)?;
+    let (rows, bytes) = brought_of_one(rt.alloc(), &mut peer, &shelf)?;
+    assert!(rt; is_one(&rows));
     assert!(rt; bytes < 2000, "{bytes}");
     Ok(())
 }
 
 #[test]
 fn values_that_are_far_are_told_by_digests(rt: HostRuntime) -> Result<(), Fail> {
-    let alloc = rt.alloc();
-    let all = numbers(alloc, 2000, 2000)?;
-    let mut peer = tree_of(alloc, &all)?;
-    let mut shelf = shelf_of(alloc, &all)?;
+    let (mut peer, mut shelf) = peer_of(rt.alloc(), 2000)?;
     shelf.put_away();
-    let some = numbers(alloc, 2000, 1234)?;
-    let mut local = tree_of(alloc, &some)?;
-    let (rows, bytes) = brought(alloc, &mut local, 1999, &mut peer, &shelf)?;
-    assert_eq!(rt; rows.len(), 1);
-    assert_eq!(rt; rows[0].0.as_str(), "001234");
+    let (rows, bytes) = brought_of_one(rt.alloc(), &mut peer, &shelf)?;
+    assert!(rt; is_one(&rows));
     assert!(rt; bytes < 3000, "{bytes}");
     Ok(())
 }
@@ -122,9 +131,7 @@ fn values_that_are_far_are_told_by_digests(rt: HostRuntime) -> Result<(), Fail> 
 #[test]
 fn a_closed_shelf_says_so(rt: HostRuntime) -> Result<(), Fail> {
     let alloc = rt.alloc();
-    let all = numbers(alloc, 50, 50)?;
-    let mut peer = tree_of(alloc, &all)?;
-    let mut shelf = shelf_of(alloc, &all)?;
+    let (mut peer, mut shelf) = peer_of(alloc, 50)?;
     shelf.close();
     let local = tree_of(alloc, &[])?;
     let (_, message) = CatchingUp::<String, u64>::begin_of(alloc, &local)?;
@@ -137,9 +144,7 @@ fn a_closed_shelf_says_so(rt: HostRuntime) -> Result<(), Fail> {
 #[test]
 fn a_row_is_brought_by_a_tree_that_is_far(rt: HostRuntime) -> Result<(), Fail> {
     let alloc = rt.alloc();
-    let all = numbers(alloc, 3, 3)?;
-    let mut peer = tree_of(alloc, &all)?;
-    let shelf = shelf_of(alloc, &all)?;
+    let (mut peer, shelf) = peer_of(alloc, 3)?;
     let mut local = FarTree::of(tree_of(alloc, &[])?);
     let (session, message) = CatchingUp::<String, u64>::begin_by(alloc, &mut local)?;
     let reply = reply_of(alloc, &mut peer, &shelf, &message)?;
@@ -157,9 +162,7 @@ fn a_row_is_brought_by_a_tree_that_is_far(rt: HostRuntime) -> Result<(), Fail> {
 #[test]
 fn a_tree_out_of_reach_says_so(rt: HostRuntime) -> Result<(), Fail> {
     let alloc = rt.alloc();
-    let all = numbers(alloc, 50, 50)?;
-    let mut peer = tree_of(alloc, &all)?;
-    let shelf = shelf_of(alloc, &all)?;
+    let (mut peer, shelf) = peer_of(alloc, 50)?;
     let mut local = FarTree::of(tree_of(alloc, &[])?);
     let (session, message) = CatchingUp::<String, u64>::begin_by(alloc, &mut local)?;
     let reply = reply_of(alloc, &mut peer, &shelf, &message)?;
@@ -177,10 +180,9 @@ fn a_tree_out_of_reach_says_so(rt: HostRuntime) -> Result<(), Fail> {
 #[test]
 fn a_side_with_a_tree_that_is_far_answers_within_reach_alone(rt: HostRuntime) -> Result<(), Fail> {
     let alloc = rt.alloc();
-    let all = numbers(alloc, 50, 50)?;
-    let shelf = shelf_of(alloc, &all)?;
-    let mut near = tree_of(alloc, &all)?;
-    let mut far = FarTree::of(tree_of(alloc, &all)?);
+    let (mut near, shelf) = peer_of(alloc, 50)?;
+    let (tree, _) = peer_of(alloc, 50)?;
+    let mut far = FarTree::of(tree);
     let local = tree_of(alloc, &[])?;
     let (_, message) = CatchingUp::<String, u64>::begin_of(alloc, &local)?;
     match answer_by(alloc, &mut far, &shelf, &message, MOST_BYTES) {
