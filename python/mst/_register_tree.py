@@ -76,6 +76,19 @@ class RegisterTree(Sessions[RegisterRows, Entry]):
         raises, the tree is as before: UntakenError names the first row that no `mst` takes."""
         self._tree.load(_ByteRows(rows))
 
+    def verify(self, rows: RegisterRows) -> "List[str]":
+        """The keys at which the tree isn't that of the rows, in their order; none if it is in step. `refresh` them, or `load` the tree anew. It makes
+        another tree to compare, and raises what `load` does."""
+        return [key.decode() for key in self._tree.verify(_ByteRows(rows))]
+
+    def rescan(self, rows: RegisterRows, first: str = "", end: "Optional[str]" = None) -> None:
+        """Sets the tree to the rows with first <= key < end, or all with first <= key if the end is None, as they are, by one scan of them, and takes
+        out the keys there that have no row: after another program wrote or deleted some of them. If it raises, as `load` does, the tree has some of
+        these rows as they are and the others as they were: call it again."""
+        if not (isinstance(first, str) and isinstance(end, (str, type(None)))):
+            raise TypeError("keys are str")
+        self._tree.rescan(_ByteRows(rows), first.encode(), None if end is None else end.encode())
+
     def join(self, rows: RegisterRows, came: "Iterable[Entry]") -> None:
         """Joins rows with those that are kept, by their own `join`, and sets the tree to what they then are: so `catch_up` does with what came, and so
         a program writes. Each key comes once (ValueError). Nothing is written if `mst` wouldn't take a row (UntakenError)."""

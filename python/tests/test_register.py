@@ -189,6 +189,37 @@ class CatchUps(unittest.TestCase):
         self.assertRaises(ValueError, side.tree.root_hash)
         self.assertRaises(ValueError, RegisterTree, hash_key=b"short")
 
+    def test_rows_that_another_program_wrote(self):
+        for seed in range(40):
+            draw = random.Random(seed)
+            told, now = (drawn(draw, draw.choice([0, 3, 600]), 3) for _ in range(2))
+            side = Side(told)
+            before, side.rows.table = side.root_hash(), now
+            self.assertEqual(side.tree.verify(side.rows), sorted(key for key in {**told, **now} if told.get(key) != now.get(key)))
+            self.assertEqual(side.root_hash(), before)
+            first, end = draw.choice(["", "key2", "\u00e9"]), draw.choice([None, "key3", "\u00e91"])
+            side.tree.rescan(side.rows, first, end)
+            wanted = {key: register for key, register in told.items() if key < first or (end is not None and key >= end)}
+            wanted.update((key, register) for key, register in now.items() if key >= first and (end is None or key < end))
+            self.assertEqual(side.root_hash(), Side(wanted).root_hash(), (seed, first, end))
+            side.tree.rescan(side.rows)
+            self.assertEqual((side.tree.verify(side.rows), side.root_hash()), ([], Side(now).root_hash()))
+        for words in [(b"a",), ("a", b"b"), (None,)]:
+            self.assertRaises(TypeError, side.tree.rescan, side.rows, *words)
+        side.tree.close()
+        self.assertRaises(ValueError, side.tree.verify, side.rows)
+
+    def test_a_scan_that_fails_while_another_programs_rows_are_read(self):
+        side = Side(OURS)
+        before, side.rows.table = side.root_hash(), dict(THEIRS)
+        side.rows.fault["scan"] = OSError("lost")
+        for call in [side.tree.verify, side.tree.rescan]:
+            self.assertRaises(OSError, call, side.rows)
+            self.assertEqual(side.root_hash(), before)
+        side.rows.fault.clear()
+        side.tree.rescan(side.rows)
+        self.assertEqual(side.root_hash(), Side(THEIRS).root_hash())
+
     def not_taken(self, key, part, call, *words):
         with self.assertRaises(UntakenError) as caught:
             call(*words)
@@ -211,8 +242,9 @@ class CatchUps(unittest.TestCase):
                 sent = []
                 self.not_taken(key, part, side.serve, said_by(question), sent.append)
                 self.assertEqual(sent, [])
-            self.not_taken(key, part, side.tree.load, side.rows)
-            self.assertEqual(side.tree.root_hash(), root)
+            for call in [side.tree.load, side.tree.verify, side.tree.rescan]:
+                self.not_taken(key, part, call, side.rows)
+                self.assertEqual(side.tree.root_hash(), root)
             side.rows.table["fox"] = OURS["ant"]
             with self.assertRaises(UnreadError) as caught:
                 side.tree.refresh(side.rows, [key, "fox"])
@@ -238,7 +270,9 @@ class CatchUps(unittest.TestCase):
 
         side, rows = Side(OURS), Others()
         for rows.keys, text in [(("b", "B"), "b'B' after b'b', .* COLLATE"), (("b", "b"), "b'b' twice: ")]:
-            self.assertRaisesRegex(ValueError, text, side.tree.load, rows)
+            for call in [side.tree.load, side.tree.verify]:
+                self.assertRaisesRegex(ValueError, text, call, rows)
+            self.assertRaisesRegex(ValueError, text, Side().tree.rescan, rows)
             self.assertRaisesRegex(ValueError, text, side.tree.answer, rows, bytes.fromhex("01 05 01 00 00"))
             self.assertRaisesRegex(ValueError, text, RegisterTree, rows, hash_key=KEY)
         self.assertEqual(side.tree.root_hash(), Side(OURS).tree.root_hash())

@@ -293,6 +293,11 @@ pub struct Range<'a> {
     pub end: Option<&'a str>,
 }
 
+impl Range<'_> {
+    /// The range of all keys.
+    pub const ALL: Self = Self { first: "", end: None };
+}
+
 impl RangeBounds<str> for Range<'_> {
     fn start_bound(&self) -> Bound<&str> {
         Bound::Included(self.first)
@@ -406,6 +411,21 @@ impl RegisterTree {
     /// is as before: as [`SyncTree::load`] does, and with [`Failed::Untaken`] if a row is one that no `mst` takes. A catch-up that is under way ends.
     pub fn load<R: Registers + ?Sized>(&mut self, rows: &mut R) -> Result<(), Failed<R::Error>> {
         self.tree.load(&mut ByteRows { rows, latest: 0 }).map_err(failed_of)
+    }
+
+    /// Sets the tree to the rows in a range as they are, by one scan of them, and takes out the keys there that have no row: after another program
+    /// wrote or deleted some of them. If it fails, as [`RegisterTree::load`] does, the tree has some of these rows as they are and the others as they
+    /// were: call it again.
+    pub fn rescan<R: Registers + ?Sized>(&mut self, rows: &mut R, range: Range<'_>) -> Result<(), Failed<R::Error>> {
+        let range = sync::Range { first: range.first.as_bytes(), end: range.end.map(str::as_bytes) };
+        self.tree.rescan(&mut ByteRows { rows, latest: 0 }, range).map_err(failed_of)
+    }
+
+    /// The keys at which the tree isn't that of the rows, in their order; none if it is in step, as [`SyncTree::verify`]: set or remove each, or
+    /// [`RegisterTree::load`] the tree anew. It makes another tree to compare, and fails as that does.
+    pub fn verify<R: Registers + ?Sized>(&mut self, rows: &mut R) -> Result<Vec<String>, Failed<R::Error>> {
+        let keys = self.tree.verify(&mut ByteRows { rows, latest: 0 }).map_err(failed_of)?;
+        Ok(keys.into_iter().map(|key| String::from_utf8(key).expect("each key was set as a text")).collect())
     }
 
     /// Sets a key to the digest of a register: after each commit, to the one that the row now has. An error if no `mst` takes it, which

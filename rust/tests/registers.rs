@@ -399,6 +399,25 @@ fn writes() {
 }
 
 #[test]
+fn rows_that_another_program_wrote() {
+    for seed in 1..60 {
+        let ([told, mut rows], [(mut tree, _), (mut anew, _)]) = drawn_sides(seed);
+        let (before, both) = (tree.root_hash(), joined(&told, &rows));
+        let differing = Vec::from_iter(both.into_keys().filter(|key| told.get(key) != rows.get(key)));
+        assert_eq!(tree.verify(&mut rows).unwrap(), differing);
+        assert_eq!(tree.root_hash(), before);
+        let range = Range { first: "k\u{e9}y1", end: [None, Some("k\u{e9}y3")][seed as usize % 2] };
+        let mut wanted = told.clone();
+        wanted.retain(|key, _| !range.contains(key.as_str()));
+        wanted.extend(rows.range::<str, _>(range).map(|(key, register)| (key.clone(), register.clone())));
+        tree.rescan(&mut rows, range).unwrap();
+        assert_eq!(tree.root_hash(), side(&wanted).0.root_hash());
+        tree.rescan(&mut rows, Range::ALL).unwrap();
+        assert_eq!((tree.verify(&mut rows).unwrap(), tree.root_hash()), (Vec::new(), anew.root_hash()));
+    }
+}
+
+#[test]
 fn another_hash_key() {
     let other = "00000000000000000000000000000000";
     for keys in [[HASH_KEY, other], [other, HASH_KEY]] {
@@ -478,6 +497,8 @@ fn rows_that_are_not_taken() {
         let is_named = |failed: Failed<Infallible>| matches!(failed, Failed::Untaken(found) if found == untaken);
         rows.insert(key.clone(), register.clone());
         assert!(is_named(tree.load(&mut rows).unwrap_err()));
+        assert!(is_named(tree.verify(&mut rows).unwrap_err()));
+        assert!(is_named(tree.rescan(&mut rows, Range::ALL).unwrap_err()));
         assert_eq!(tree.root_hash(), root);
         // Another program wrote it, and the tree isn't told: by its range, and by its key.
         let by_range = hex("01 05 01 00 00");
@@ -560,6 +581,8 @@ fn rows_that_dont_ascend() {
         let wanted = OutOfOrder { key: keys[1].into(), before: Some(b"b".to_vec()) };
         let is_named = |failed: Failed<Infallible>| matches!(failed, Failed::NotAscending(out) if out == wanted);
         assert!(is_named(tree.load(&mut rows).unwrap_err()));
+        assert!(is_named(tree.verify(&mut rows).unwrap_err()));
+        assert!(is_named(side(&Table::new()).0.rescan(&mut rows, Range::ALL).unwrap_err()));
         assert!(is_named(answer(&mut tree, &mut rows, &hex("01 05 01 00 00")).unwrap_err()));
         assert_eq!(tree.root_hash(), side(&ours()).0.root_hash());
     }
