@@ -16,3 +16,7 @@ static uint8_t nothing[1];
     } while (0)
 #define POINTER(pointer) \
     do { if (!(pointer)) return MST_BAD_ARGUMENT; } while (0)
+
+/* Refuses one place for two numbers: the proved calls take what they write to be apart. */
+#define APART(one, other) \
+    do { if ((one) == (other)) return MST_BAD_ARGUMENT; } while (0)

@@ -90,6 +90,7 @@ int mst_replica_take(struct mst_replica *replica, const uint8_t *reply, size_t r
     POINTER(replica);
     POINTER(message_len);
     POINTER(joined);
+    APART(message_len, joined);
     BYTES(reply, reply_len);
     return (int)mst_proved_replica_take(replica, reply, reply_len, message_len, joined);
 }

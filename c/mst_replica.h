@@ -111,8 +111,8 @@ int mst_replica_ask(struct mst_replica *replica, size_t *message_len);
  * replica rows were put between two of its replies, so that a key came twice: begin again by mst_replica_ask. It also comes of a peer that
  * sends more than 1,000,000 replies, 2^32 rows or 2^36 bytes in one catch-up. MST_NO_MEMORY: the
  * catch-up is over, no message is kept, and *joined says how many of the rows that came are joined, the first in the order of their keys:
- * where it is 0 the rows are as they were; begin again by mst_replica_ask. MST_BAD_ARGUMENT. But for MST_DONE, *message_len is as
- * before, and so is *joined, but for MST_NO_MEMORY.
+ * where it is 0 the rows are as they were; begin again by mst_replica_ask. MST_BAD_ARGUMENT, also where `message_len` and `joined` are one
+ * pointer. But for MST_DONE, *message_len is as before, and so is *joined, but for MST_NO_MEMORY.
  *
  * What is written and put in between stays, also where it came after the question. It hashes the pages that lack a digest, looks up each
  * key and page that came, and takes memory in proportion to the bytes that came. */

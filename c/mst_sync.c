@@ -90,6 +90,7 @@ int mst_sync_take(struct mst_sync *sync, const uint8_t *reply, size_t reply_len,
     POINTER(sync);
     POINTER(message_len);
     POINTER(list_len);
+    APART(message_len, list_len);
     BYTES(reply, reply_len);
     return (int)mst_proved_sync_take(sync, reply, reply_len, message_len, list_len);
 }
@@ -98,6 +99,7 @@ int mst_sync_answer(struct mst_sync *sync, const uint8_t *question, size_t quest
     POINTER(sync);
     POINTER(message_len);
     POINTER(list_len);
+    APART(message_len, list_len);
     BYTES(question, question_len);
     return (int)mst_proved_sync_answer(sync, question, question_len, message_len, list_len);
 }

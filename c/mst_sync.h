@@ -105,7 +105,8 @@ int mst_sync_ask(struct mst_sync *sync, size_t *message_len);
  *
  * MST_ABSENT where no catch-up is under way. MST_MALFORMED where the bytes are no reply to what was asked, MST_REFUSED where the peer refused, and
  * MST_NO_MEMORY: the catch-up is over then, no message is kept, and the list is as before; begin again by mst_sync_ask. MST_MALFORMED also comes of an
- * honest peer and of a peer without end, as mst_replica_take says. MST_BAD_ARGUMENT. But for MST_DONE, *message_len and *list_len are as before.
+ * honest peer and of a peer without end, as mst_replica_take says. MST_BAD_ARGUMENT, also where `message_len` and `list_len` are one
+ * pointer. But for MST_DONE, *message_len and *list_len are as before.
  *
  * It hashes the pages that lack a digest, looks up each key and page that came, and takes memory in proportion to the bytes that came, and at the end
  * once more for the list. */
@@ -113,9 +114,9 @@ int mst_sync_take(struct mst_sync *sync, const uint8_t *reply, size_t reply_len,
 
 /* Answers a question by the tree: keeps the reply as the message, and writes its length. MST_NEEDS_ROWS where it asks for rows: the list then says which, its
  * length is written, and the message stays. MST_MALFORMED where the bytes are no question, and MST_OTHER_SETTINGS where a side with other settings asks: the
- * message is then a refusal, whose length is written, and is to be sent too. MST_NO_MEMORY, where the message stays; MST_BAD_ARGUMENT. The map stays, pages
- * that lack a digest get it, and a catch-up that this side is in goes on, but its message is lost: copy it before. But for MST_NEEDS_ROWS the list stays,
- * and *list_len; *message_len is written where there is a message to be sent.
+ * message is then a refusal, whose length is written, and is to be sent too. MST_NO_MEMORY, where the message stays; MST_BAD_ARGUMENT, also where
+ * `message_len` and `list_len` are one pointer. The map stays, pages that lack a digest get it, and a catch-up that this side is in goes on, but its message
+ * is lost: copy it before. But for MST_NEEDS_ROWS the list stays, and *list_len; *message_len is written where there is a message to be sent.
  *
  * A reply ends by 64 MiB, with the entry that reaches them. Time as for mst_replica_answer; for the first question of a catch-up it counts the keys, as
  * mst_sync_len does. */

@@ -223,13 +223,52 @@ static void bad_arguments(void) {
     WANT(mst_replica_take(NULL, out, 1, &len, &joined) == MST_BAD_ARGUMENT && mst_replica_take(&none, out, 1, &len, &joined) == MST_BAD_ARGUMENT);
     WANT(mst_replica_take(&replica, NULL, 1, &len, &joined) == MST_BAD_ARGUMENT && mst_replica_take(&replica, out, 1, NULL, &joined) == MST_BAD_ARGUMENT);
     WANT(mst_replica_take(&replica, out, 1, &len, NULL) == MST_BAD_ARGUMENT && mst_replica_take(&replica, out, huge, &len, &joined) == MST_BAD_ARGUMENT);
+    WANT(mst_replica_take(&replica, out, 1, &len, &len) == MST_BAD_ARGUMENT && mst_replica_take(&replica, out, SIZE_MAX, &len, &joined) == MST_BAD_ARGUMENT);
     WANT(mst_replica_take(&replica, out, 1, &len, &joined) == MST_ABSENT && len == 99 && joined == 88 && *out == 77 && !none.at);
+    /* (null pointers to no bytes, which are no question and no reply) */
+    WANT(mst_replica_answer(&replica, NULL, 0, &len) == MST_MALFORMED && len == 2);
+    WANT(mst_replica_ask(&replica, &len) == MST_DONE && mst_replica_take(&replica, NULL, 0, &len, &joined) == MST_MALFORMED);
+    WANT(mst_replica_take(&replica, NULL, 0, &len, &joined) == MST_ABSENT && joined == 88);
     mst_replica_free(NULL);
     mst_replica_free(&none);
     mst_replica_free(&replica);
     WANT(!replica.at);
     mst_replica_free(&replica);
     puts("each status, with null for each pointer");
+}
+
+/* ---- a replica that is let go within a catch-up, after each of its messages: nothing is held then, and the handle takes another one */
+static void let_go(void) {
+    struct mst_replica a = MST_NO_REPLICA, b = MST_NO_REPLICA;
+    unsigned after, i, ended = 0;
+    WANT(mst_replica_new_with(&b, KEY, 2, 1) == MST_DONE);
+    for (i = 0; i < 400; i++) WANT(put(&b, i, i) == MST_DONE);
+    for (after = 0; !ended; after++) {
+        size_t len, reply_len, joined;
+        held = 0;
+        WANT(mst_replica_new_with(&a, KEY, 2, 1) == MST_DONE);
+        for (i = 0; i < 400; i += 3) WANT(put(&a, i, i + 1) == MST_DONE);
+        WANT(mst_replica_ask(&a, &len) == MST_DONE);
+        for (i = 0; i < after && len; i++) {
+            struct bytes question = room(len), reply;
+            long before;
+            WANT(mst_replica_message(&a, question.at, len, &len) == MST_DONE);
+            before = held;
+            WANT(mst_replica_answer(&b, question.at, len, &reply_len) == MST_DONE);
+            held = before; /* what the peer keeps isn't counted */
+            reply = room(reply_len);
+            WANT(mst_replica_message(&b, reply.at, reply_len, &reply_len) == MST_DONE);
+            WANT(mst_replica_take(&a, reply.at, reply_len, &len, &joined) == MST_DONE);
+            __real_free(question.at);
+            __real_free(reply.at);
+        }
+        ended = !len;
+        WANT(held > 0);
+        mst_replica_free(&a);
+        WANT(!a.at && !held);
+    }
+    mst_replica_free(&b);
+    printf("a replica let go after each of %u messages holds nothing\n", after);
 }
 
 /* A side with other settings refuses, by two bytes, and the asking side is told. */
@@ -457,6 +496,7 @@ int main(void) {
     syncs();
     costs();
     bad_arguments();
+    let_go();
     settings();
     first_replies();
     hostile();

@@ -290,6 +290,46 @@ static void costs(void) {
     end(&b);
 }
 
+/* The question for all rows. */
+static const uint8_t ALL_ROWS[] = {1, 5, 1, 0, 0};
+
+/* ---- a side that is let go within a catch-up, after each of its messages, or while it says which rows it needs: nothing is held then */
+static void let_go(void) {
+    struct mst_sync side = MST_NO_SYNC;
+    struct peer peer;
+    unsigned after, i, ended = 0;
+    size_t len, list_len;
+    start(&peer, 0, 400, 2, 1);
+    for (i = 0; i < 400; i++) WANT(put(&peer, i, i + 1) == MST_DONE);
+    for (after = 0; !ended; after++) {
+        held = 0;
+        WANT(mst_sync_new_with(&side, KEY, 2, 1) == MST_DONE);
+        for (i = 0; i < 100; i++) WANT(mst_sync_set(&side, (const uint8_t *)&i, sizeof i, NULL, 0) == MST_DONE);
+        WANT(mst_sync_ask(&side, &len) == MST_DONE);
+        for (i = 0; i < after && len; i++) {
+            struct bytes question = room(len), reply;
+            long before;
+            size_t reply_len;
+            WANT(mst_sync_message(&side, question.at, len, &len) == MST_DONE);
+            before = held;
+            WANT(mst_replica_answer(&peer.replica, question.at, len, &reply_len) == MST_DONE);
+            held = before; /* what the peer keeps isn't counted */
+            reply = room(reply_len);
+            WANT(mst_replica_message(&peer.replica, reply.at, reply_len, &reply_len) == MST_DONE);
+            WANT(mst_sync_take(&side, reply.at, reply_len, &len, &list_len) == MST_DONE);
+            __real_free(question.at);
+            __real_free(reply.at);
+        }
+        ended = !len;
+        if (ended) WANT(mst_sync_answer(&side, ALL_ROWS, sizeof ALL_ROWS, &len, &list_len) == MST_NEEDS_ROWS && list_len);
+        WANT(held > 0);
+        mst_sync_free(&side);
+        WANT(!side.at && !held);
+    }
+    end(&peer);
+    printf("a side let go after each of %u messages holds nothing\n", after);
+}
+
 /* ---- statuses */
 static void bad_arguments(void) {
     struct mst_sync none = MST_NO_SYNC, side = MST_NO_SYNC;
@@ -339,7 +379,15 @@ static void bad_arguments(void) {
     WANT(mst_sync_answer_with(&side, out, huge, out, 1, 1, 9, &len) == MST_BAD_ARGUMENT);
     WANT(mst_sync_answer_with(&side, out, 1, out, huge, 1, 9, &len) == MST_BAD_ARGUMENT);
     WANT(mst_sync_answer_with(&side, out, 1, out, 1, 1, 9, NULL) == MST_BAD_ARGUMENT);
+    WANT(mst_sync_take(&side, out, 1, &len, &len) == MST_BAD_ARGUMENT && mst_sync_take(&side, out, SIZE_MAX, &len, &list_len) == MST_BAD_ARGUMENT);
+    WANT(mst_sync_answer(&side, out, 1, &len, &len) == MST_BAD_ARGUMENT && mst_sync_answer(&side, out, SIZE_MAX, &len, &list_len) == MST_BAD_ARGUMENT);
     WANT(len == 99 && list_len == 88 && *out == 77 && !none.at);
+    /* (null pointers to no bytes, which are no question, no reply and no list of rows) */
+    WANT(mst_sync_answer(&side, NULL, 0, &len, &list_len) == MST_MALFORMED && len == 2);
+    WANT(mst_sync_answer_with(&side, ALL_ROWS, sizeof ALL_ROWS, NULL, 0, 1, 9, &len) == MST_BAD_ARGUMENT);
+    WANT(mst_sync_answer_with(&side, NULL, 0, (const uint8_t *)"MSTr\0\0\0\0\0\0\0", 12, 1, 9, &len) == MST_MALFORMED);
+    WANT(mst_sync_ask(&side, &len) == MST_DONE && mst_sync_take(&side, NULL, 0, &len, &list_len) == MST_MALFORMED);
+    WANT(mst_sync_take(&side, NULL, 0, &len, &list_len) == MST_ABSENT && list_len == 88);
     mst_sync_free(NULL);
     mst_sync_free(&none);
     mst_sync_free(&side);
@@ -592,6 +640,7 @@ int main(void) {
     syncs();
     costs();
     bad_arguments();
+    let_go();
     settings();
     hostile();
     refuse_each(a_life);

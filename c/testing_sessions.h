@@ -47,22 +47,22 @@ static void alter_session(tried *question, void *answering, tried *reply, void *
     printf("%zu messages of %zu bytes, each byte altered and each cut: refused %ld times\n", 2 * rounds, total, refusals_seen);
 }
 
-/* Refuses each request for memory of a life in turn. A life makes each call again until it isn't refused, counts the refusals, and returns what is there at
- * its end, which is always the same. */
+/* Refuses each request for memory of a life in turn. A life makes each call again until it isn't refused, counts the refusals, lets all go, and returns what
+ * is there at its end, which is always the same. */
 static void refuse_each(struct bytes (*life)(int *refused)) {
     struct bytes end, again;
     int refused = 0;
     long all, at, spared = 0;
-    made = 0;
+    made = held = 0;
     end = life(&refused);
     all = made;
-    WANT(!refused);
+    WANT(!refused && !held);
     for (at = 1; at <= all; at++) {
         int here = 0;
         made = 0;
         refused_at = at;
         again = life(&here);
-        WANT(here <= 1 && same(end, again));
+        WANT(here <= 1 && same(end, again) && !held);
         spared += !here;
         __real_free(again.at);
     }

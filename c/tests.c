@@ -603,6 +603,7 @@ static void statuses(void) {
     WANT(!strcmp(before, after));
     WANT(mst_tree_upsert(&tree, NULL, 0, NULL, 0) == MST_DONE);
     WANT(mst_tree_find(&tree, NULL, 0, out) == MST_DONE);
+    WANT(mst_tree_upsert_digest(&tree, NULL, 0, out) == MST_DONE);
     WANT(mst_tree_remove(&tree, NULL, 0) == MST_DONE);
     mst_tree_free(&tree);
     free(list);
@@ -655,17 +656,18 @@ static void refusals(void) {
     char root[33], again[33];
     int refused = 0;
     long all, at, begins, ends, spared = 0;
-    made = 0;
+    made = held = 0;
     a_life(root, &refused);
     all = made;
     begins = load_begins;
     ends = load_ends;
-    WANT(!refused);
+    WANT(!refused && !held);
     for (at = 1; at <= all; at++) {
         int here = 0;
         made = 0;
         refused_at = at;
         a_life(again, &here);
+        WANT(!held);
         WANT(here == 1 || (here == 0 && begins < at && at <= ends));
         WANT(!strcmp(root, again));
         spared += here == 0;
