@@ -48,9 +48,9 @@ class Package(unittest.TestCase):
         self.assertEqual(written, ["0 rows came", "1000 rows came", "20 rows came", "1010 1010 True"])
         written = python(os.path.join(HERE, "..", "examples", "sqlite_rows.py"))
         self.assertEqual(written, "2 rows came\n{'apple': '1132 red', 'kiwi': '1207 brown', 'melon': '1131 ripe'}\n")
-        # redis_rows.py, postgres_rows.py and postgres_registers.py are run by tests/databases, replica_over_pipes.py and sync_over_pipes.py by
-        # tests/packages, and store_peer.py by tests/store_peers
-        self.assertEqual(len(glob.glob(os.path.join(HERE, "..", "examples", "*.py"))), 8)
+        # redis_rows.py, redis_registers.py, postgres_rows.py and postgres_registers.py are run by tests/databases, replica_over_pipes.py and
+        # sync_over_pipes.py by tests/packages, and store_peer.py by tests/store_peers
+        self.assertEqual(len(glob.glob(os.path.join(HERE, "..", "examples", "*.py"))), 9)
 
     def test_a_library_that_is_not_there(self):
         env = {**os.environ, "PYTHONPATH": os.pathsep.join(sys.path), "MST_LIBRARY": "/nowhere"}
