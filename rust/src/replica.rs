@@ -115,7 +115,9 @@ impl fmt::Display for Fault {
         match self {
             Self::Malformed => f.write_str("the peer's message is no question, or no reply to what was asked"),
             Self::OtherSettings => f.write_str("the peer that asks has other settings"),
-            Self::Refused => f.write_str("the peer refused what it was asked: its settings may be others, or it met a limit of its own"),
+            Self::Refused => f.write_str(
+                "the peer refused what it was asked: its settings may be others, or it met a limit of its own",
+            ),
             Self::NotAsking => f.write_str("no catch-up is under way, or another began in the place of this one"),
             Self::OtherRows => f.write_str("the rows that were found aren't those that the question needs"),
             Self::OutOfMemory { joined } => write!(f, "memory was refused; {joined} of the rows that came are joined"),
