@@ -59,6 +59,14 @@ EndsFor first row (fault.Store why) = ⊤
 EndsFor first row (fault.Device error) = ⊤
 EndsFor first row _ = ⊥
 
+-- it ends for its header only if this is so, and for no record
+abbrev pub EndsForHeader : Type 0 → Fault → Type 0
+EndsForHeader first = EndsFor first ⊥
+
+-- it ends for a record only if this is so, and not for its header
+abbrev pub EndsForRecord : Type 0 → Fault → Type 0
+EndsForRecord row = EndsFor ⊥ row
+
 -- a command ends early only if memory, the store or a device fails
 abbrev pub IsCommandFailure : Fault → Type 0
 IsCommandFailure = EndsFor ⊥ ⊥

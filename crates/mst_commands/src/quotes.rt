@@ -1,6 +1,6 @@
 //! The quotes of a text of CSV.
 ghost use Rattle.std.specs.Prelude.{◌≡◌, IsTrue, OnOk, IfErr, true, false};
-ghost use Rattle.mst_commands.specs.Malformed.{EndsFor};
+ghost use Rattle.mst_commands.specs.Malformed.{EndsForRecord};
 ghost use Rattle.mst_commands.specs.Quotes.{behind_bom as text_behind_bom, is_quoted, next_place as place_behind};
 
 use crate::fault::Fault;
@@ -82,7 +82,7 @@ fn behind_bom(text: &[u8]) -> &[u8]
 /// [`Fault::BadLine`] with the line of the quote that is open, or of the byte that is wrong.
 pub fn expect_quotes(text: &[u8]) -> Result<(), Fault>
     ensures quoted { OnOk result (is_quoted text.now ≡ true) }
-    ensures wrong { IfErr result (EndsFor ⊥ (is_quoted text.now ≡ false)) }
+    ensures wrong { IfErr result (EndsForRecord (is_quoted text.now ≡ false)) }
 {
     let text = behind_bom(text);
     let mut place = Place::Start;

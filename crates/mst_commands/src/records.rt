@@ -6,7 +6,7 @@ ghost use Rattle.csv.specs.Writing.{text_written};
 ghost use Rattle.store_table.specs.Values.{IsValueOf};
 ghost use Rattle.mst_commands.specs.Records.{header, field_or_empty, pair_text, pairs_text, SaysPair, SaysChange, SaysEntry, SaysValue, SpellsNumber};
 ghost use Rattle.mst_commands.specs.Records.{HasEntries, HasRead, HasWritten, ReadsOne, WritesRecord, WritesRecords};
-ghost use Rattle.mst_commands.specs.Malformed.{EndsFor, IsCommandFailure, IsImportRefused, IsNoName, IsParseRefused, SaysNoChange, SaysNone};
+ghost use Rattle.mst_commands.specs.Malformed.{EndsForHeader, EndsForRecord, IsCommandFailure, IsImportRefused, IsNoName, IsParseRefused, SaysNoChange, SaysNone};
 ghost use Rattle.mst_commands.specs.Quotes.{is_quoted};
 
 use crate::fault::{Fault, csv_fault, input_fault};
@@ -50,7 +50,7 @@ fn line_of(row: &ByteRecord) -> u64 {
 /// A field of a record that has 1 MiB at most.
 fn short_field(row: &ByteRecord, at: usize) -> Result<&[u8], Fault>
     ensures same { IfOk result (λ field. field.now ≡ field_or_empty (fields_of row.now) at) }
-    ensures long { IfErr result (EndsFor ⊥ (MOST < length (field_or_empty (fields_of row.now) at))) }
+    ensures long { IfErr result (EndsForRecord (MOST < length (field_or_empty (fields_of row.now) at))) }
 {
     let bytes = field(row, at);
     if bytes.len() > MOST {
@@ -62,7 +62,7 @@ fn short_field(row: &ByteRecord, at: usize) -> Result<&[u8], Fault>
 /// A key or a writer of a record, in memory of its own.
 fn name_of(alloc: Global, row: &ByteRecord, at: usize) -> Result<String, Fault>
     ensures text { IfOk result (λ text. string_bytes text ≡ field_or_empty (fields_of row.now) at) }
-    ensures none { IfErr result (EndsFor ⊥ (IsNoName (field_or_empty (fields_of row.now) at))) }
+    ensures none { IfErr result (EndsForRecord (IsNoName (field_or_empty (fields_of row.now) at))) }
 {
     match str::from_utf8(short_field(row, at)?) {
         Ok(text) => Ok(String::from_str(alloc, text)?),
@@ -73,7 +73,7 @@ fn name_of(alloc: Global, row: &ByteRecord, at: usize) -> Result<String, Fault>
 /// A value of a record, in memory of its own.
 fn value_of(alloc: Global, row: &ByteRecord, at: usize) -> Result<Value, Fault>
     ensures value { IfOk result (λ value. IsValueOf (field_or_empty (fields_of row.now) at) value) }
-    ensures long { IfErr result (EndsFor ⊥ (MOST < length (field_or_empty (fields_of row.now) at))) }
+    ensures long { IfErr result (EndsForRecord (MOST < length (field_or_empty (fields_of row.now) at))) }
 {
     let bytes = Vec::from_slice(alloc, short_field(row, at)?)?;
     Ok(Value::of(bytes))
@@ -82,7 +82,7 @@ fn value_of(alloc: Global, row: &ByteRecord, at: usize) -> Result<Value, Fault>
 /// Refuses a first record whose field at this place has another name.
 fn expect_name(row: &ByteRecord, at: usize, name: &str, names: &'static str) -> Result<(), Fault>
     ensures same { OnOk result (field_or_empty (fields_of row.now) at ≡ name.now) }
-    ensures other { IfErr result (EndsFor (field_or_empty (fields_of row.now) at ≢ name.now) ⊥) }
+    ensures other { IfErr result (EndsForHeader (field_or_empty (fields_of row.now) at ≢ name.now)) }
 {
     if field(row, at) == name.as_bytes() {
         Ok(())
@@ -94,7 +94,7 @@ fn expect_name(row: &ByteRecord, at: usize, name: &str, names: &'static str) -> 
 /// Refuses a first record that is not the header of keys and values.
 fn expect_pair_header(row: &ByteRecord) -> Result<(), Fault>
     ensures same { OnOk result (fields_of row.now ≡ header false) }
-    ensures other { IfErr result (EndsFor (fields_of row.now ≢ header false) ⊥) }
+    ensures other { IfErr result (EndsForHeader (fields_of row.now ≢ header false)) }
 {
     if row.len() != 2 {
         return Err(Fault::NoHeader(HEADER));
@@ -107,7 +107,7 @@ fn expect_pair_header(row: &ByteRecord) -> Result<(), Fault>
 /// Refuses a first record that is not the header of a log.
 fn expect_log_header(row: &ByteRecord) -> Result<(), Fault>
     ensures same { OnOk result (fields_of row.now ≡ header true) }
-    ensures other { IfErr result (EndsFor (fields_of row.now ≢ header true) ⊥) }
+    ensures other { IfErr result (EndsForHeader (fields_of row.now ≢ header true)) }
 {
     if row.len() != 5 {
         return Err(Fault::NoHeader(LOG_HEADER));
@@ -128,7 +128,7 @@ fn header_of(is_log: bool) -> &'static str {
 /// Refuses a first record that is no header.
 fn expect_header(row: &ByteRecord, is_log: bool) -> Result<(), Fault>
     ensures same { OnOk result (fields_of row.now ≡ header is_log) }
-    ensures other { IfErr result (EndsFor (fields_of row.now ≢ header is_log) ⊥) }
+    ensures other { IfErr result (EndsForHeader (fields_of row.now ≢ header is_log)) }
 {
     if is_log {
         expect_log_header(row)
@@ -140,7 +140,7 @@ fn expect_header(row: &ByteRecord, is_log: bool) -> Result<(), Fault>
 /// The entry of a record of keys and values, with the number of the record as its time.
 fn entry_of(alloc: Global, row: &ByteRecord, number: u64) -> Result<(String, Register), Fault>
     ensures says { IfOk result (λ entry. SaysPair number (fields_of row.now) entry) }
-    ensures none { IfErr result (EndsFor ⊥ (SaysNone false (fields_of row.now))) }
+    ensures none { IfErr result (EndsForRecord (SaysNone false (fields_of row.now))) }
 {
     if row.len() != 2 {
         return Err(Fault::BadLine(line_of(row), "it doesn't have two fields"));
@@ -161,7 +161,7 @@ fn entry_of(alloc: Global, row: &ByteRecord, number: u64) -> Result<(String, Reg
 /// The value that a record of a log says, or that it is a removal.
 fn change_of(alloc: Global, row: &ByteRecord) -> Result<Option<Value>, Fault>
     ensures says { IfOk result (λ said. SaysValue (fields_of row.now) said) }
-    ensures none { IfErr result (EndsFor ⊥ (SaysNoChange (fields_of row.now))) }
+    ensures none { IfErr result (EndsForRecord (SaysNoChange (fields_of row.now))) }
 {
     let change = field(row, 3);
     if change == "put".as_bytes() {
@@ -179,7 +179,7 @@ fn change_of(alloc: Global, row: &ByteRecord) -> Result<Option<Value>, Fault>
 /// The time of a record of a log.
 fn time_of(row: &ByteRecord) -> Result<u64, Fault>
     ensures time { IfOk result (λ time. SpellsNumber (field_or_empty (fields_of row.now) 1) time) }
-    ensures none { IfErr result (EndsFor ⊥ (SaysNone true (fields_of row.now))) }
+    ensures none { IfErr result (EndsForRecord (SaysNone true (fields_of row.now))) }
 {
     let Ok(digits) = str::from_utf8(field(row, 1)) else {
         return Err(Fault::BadLine(line_of(row), "the time isn't a number"));
@@ -196,7 +196,7 @@ fn time_of(row: &ByteRecord) -> Result<u64, Fault>
 /// The entry of a record of a log.
 fn log_entry_of(alloc: Global, row: &ByteRecord) -> Result<(String, Register), Fault>
     ensures says { IfOk result (λ entry. SaysChange (fields_of row.now) entry) }
-    ensures none { IfErr result (EndsFor ⊥ (SaysNone true (fields_of row.now))) }
+    ensures none { IfErr result (EndsForRecord (SaysNone true (fields_of row.now))) }
 {
     if row.len() != 5 {
         return Err(Fault::BadLine(line_of(row), "it doesn't have five fields"));
@@ -223,7 +223,7 @@ fn read_entry(
     is_log: bool,
 ) -> Result<(String, Register), Fault>
     ensures says { IfOk result (λ entry. SaysEntry is_log number (fields_of row.now) entry) }
-    ensures none { IfErr result (EndsFor ⊥ (SaysNone is_log (fields_of row.now))) }
+    ensures none { IfErr result (EndsForRecord (SaysNone is_log (fields_of row.now))) }
 {
     if is_log {
         log_entry_of(alloc, row)
