@@ -1,7 +1,7 @@
 //! The rows of a store's file in memory.
 ghost use Rattle.std.specs.Prelude.{◌≡◌, [], IfOk, IfErr};
 ghost use Rattle.store_table.specs.Faults.{IsFailure};
-ghost use Rattle.store_table.specs.Logs.{IsSteady, Finds, StaysInOk, StaysInErr, LeavesNoMore};
+ghost use Rattle.store_table.specs.Logs.{Finds, OnlyReads};
 ghost use Rattle.merkle_store.specs.Kept.{AreRowsOf, HasPutAll};
 
 use merkle_digest::SipHasher;
@@ -55,10 +55,7 @@ pub fn read_replica<S: Store>(
     ensures kept { Finds S.Store log.old log.new result (λ trees replica. AreRowsOf trees replica.rows) }
     ensures hash_key { IfOk result (λ replica. replica.tree.hasher ≡ hash_key.now) }
     ensures failed { IfErr result IsFailure }
-    ensures unchanged { StaysInOk S.Store log.old log.new result }
-    ensures refused { StaysInErr S.Store log.old log.new result }
-    ensures steady { IsSteady S.Store log.old log.new }
-    ensures crash { LeavesNoMore S.Store log.old log.new }
+    ensures reads { OnlyReads S.Store log.old log.new result }
 {
     let entries = read_log(alloc, log)?;
     replica_of(alloc, entries, hash_key)

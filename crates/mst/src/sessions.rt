@@ -1,7 +1,7 @@
 //! Sessions with a peer: a file is read into memory and closed before, and opened again to add what was fetched. So other commands can have it while
 //! the peer is waited for.
 ghost use Rattle.store_table.specs.Changes.{HasEntriesMore};
-ghost use Rattle.store_table.specs.Logs.{Finds, Leaves, LeavesNoMore, Makes, StaysInOk};
+ghost use Rattle.store_table.specs.Logs.{Finds, OnlyReads, Writes};
 ghost use Rattle.merkle_store.specs.Kept.{AreRowsOf};
 
 use crate::fault::Failure;
@@ -22,8 +22,7 @@ use store_table::table::{Entries, add_all};
 /// What a store notes of itself, and its rows in memory.
 fn rows_of<S: Store>(rt: &HostRuntime, log: &mut Log<S>) -> Result<(Note, EntryReplica), Failure>
     ensures rows { Finds S.Store log.old log.new result (λ trees read. AreRowsOf trees read.1.rows) }
-    ensures unchanged { StaysInOk S.Store log.old log.new result }
-    ensures crash { LeavesNoMore S.Store log.old log.new }
+    ensures reads { OnlyReads S.Store log.old log.new result }
 {
     let note = recognise(rt.alloc(), log)?;
     let replica = read_replica(rt.alloc(), log, &note.hash_key)?;
@@ -47,8 +46,7 @@ fn add_news<S: Store>(
     hash_key: &[u8; HASH_KEY_LEN],
     news: &Entries,
 ) -> Result<(), Failure>
-    ensures added { Makes S.Store log.old log.new result (HasEntriesMore news.now.items) }
-    ensures crash { Leaves S.Store log.old log.new (HasEntriesMore news.now.items) }
+    ensures added { Writes S.Store log.old log.new result (HasEntriesMore news.now.items) }
 {
     let note = recognise(rt.alloc(), log)?;
     if note.hash_key != *hash_key {

@@ -3,7 +3,7 @@ ghost use Rattle.std.specs.Prelude.{string_bytes};
 ghost use Rattle.store_table.specs.Entries.{HoldsEntries};
 ghost use Rattle.mst_commands.specs.Carries.{Carries};
 ghost use Rattle.mst_words.specs.declared.command.StoreCommand.TheVariants.{Table};
-ghost use Rattle.store_table.specs.Logs.{Finds, IsSteady, Leaves, LeavesNoMore, Makes, StaysInOk};
+ghost use Rattle.store_table.specs.Logs.{Finds, Leaves, Makes, OnlyReads};
 
 use crate::fault::Failure;
 use merkle_digest::RootHash;
@@ -24,9 +24,7 @@ use store_table::table::{Entries, read_log};
 
 /// The root hash of what the file holds.
 fn root_of<S: Trees>(rt: &HostRuntime, log: &mut Log<S>, note: &Note) -> Result<RootHash, Failure>
-    ensures unchanged { StaysInOk S.Store log.old log.new result }
-    ensures steady { IsSteady S.Store log.old log.new }
-    ensures crash { LeavesNoMore S.Store log.old log.new }
+    ensures reads { OnlyReads S.Store log.old log.new result }
 {
     let mut replica = read_replica(rt.alloc(), log, &note.hash_key)?;
     Ok(replica.root_hash().clone()?)
@@ -104,8 +102,7 @@ pub fn run_open<S: Trees>(
 /// What a store notes of itself, and all its entries.
 fn whole_of<S: Trees>(rt: &HostRuntime, log: &mut Log<S>) -> Result<(Note, Entries), Failure>
     ensures entries { Finds S.Store log.old log.new result (λ trees whole. HoldsEntries trees whole.1.items) }
-    ensures unchanged { StaysInOk S.Store log.old log.new result }
-    ensures crash { LeavesNoMore S.Store log.old log.new }
+    ensures reads { OnlyReads S.Store log.old log.new result }
 {
     let note = recognise(rt.alloc(), log)?;
     let entries = read_log(rt.alloc(), log)?;

@@ -1,8 +1,6 @@
-pub mod CarryLemmas
 pub mod CsvLemmas
 pub mod EscapeLemmas
 pub mod LineLemmas
 pub mod MalformedLemmas
 pub mod ReadLemmas
 pub mod ShownLemmas
-pub mod WriteLemmas

@@ -1,6 +1,6 @@
 //! Writes that land together.
 ghost use Rattle.std.specs.Prelude.{◌≡◌, [], None, false, true, OnErr, OnOk};
-ghost use Rattle.store_table.specs.Logs.{Leaves, LeavesNoMore, MakesAndFinds, StaysInErr, StaysInOk};
+ghost use Rattle.store_table.specs.Logs.{Leaves, MakesAndFinds, StaysInErr, OnlyReads};
 ghost use Rattle.mst_commands.specs.Changing.{Lands, PutWaitsToo, WaitsToo};
 ghost use Rattle.mst_commands.specs.Imports.{Imports};
 
@@ -93,8 +93,7 @@ impl Change {
     pub fn del<S: Store>(&mut self, alloc: Global, log: &mut Log<S>, key: &str) -> Result<(), Fault>
         ensures waits { OnOk result (WaitsToo key.now None self.old self.new) }
         ensures kept { OnErr result (self.new ≡ self.old) }
-        ensures unchanged { StaysInOk S.Store log.old log.new result }
-        ensures crash { LeavesNoMore S.Store log.old log.new }
+        ensures reads { OnlyReads S.Store log.old log.new result }
     {
         let is_there = match self.puts.get(key) {
             Some(is_there) => *is_there,

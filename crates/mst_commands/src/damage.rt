@@ -1,6 +1,6 @@
 //! Rows of the table that are no entries.
 ghost use Rattle.std.specs.Prelude.{◌≡◌, [], IfErr, OnOk};
-ghost use Rattle.store_table.specs.Logs.{Shows, StaysInOk, LeavesNoMore};
+ghost use Rattle.store_table.specs.Logs.{Shows, OnlyReads};
 ghost use Rattle.mst_commands.specs.Faults.{IsDevice};
 ghost use Rattle.mst_commands.specs.Reads.{AreEntryRows};
 
@@ -52,8 +52,7 @@ pub fn tell(rt: &HostRuntime, bad: &[BadRow]) -> Result<(), Fault>
 /// [`Fault::Damaged`] with the number of such rows, and [`Fault::Store`]. Nothing is written.
 pub fn expect_entries<S: Store>(rt: &HostRuntime, log: &mut Log<S>) -> Result<(), Fault>
     ensures entries { Shows S.Store log.old log.new result AreEntryRows }
-    ensures unchanged { StaysInOk S.Store log.old log.new result }
-    ensures crash { LeavesNoMore S.Store log.old log.new }
+    ensures reads { OnlyReads S.Store log.old log.new result }
 {
     let sifted = sift(rt.alloc(), log)?;
     tell(rt, &sifted.bad)

@@ -1,7 +1,7 @@
 //! The rows of a key, in lines.
 ghost use Rattle.std.specs.Prelude.{◌≡◌, flat_map, string_bytes, IfOk, IfErr, OnOk};
 ghost use Rattle.std.specs.Io.KnownBytes.{Appends};
-ghost use Rattle.store_table.specs.Logs.{Shows, StaysInOk, LeavesNoMore};
+ghost use Rattle.store_table.specs.Logs.{Shows, OnlyReads};
 ghost use Rattle.mst_commands.specs.Faults.{StaysAtDevice};
 ghost use Rattle.mst_commands.specs.History.{WritesHistory, change_line, change_object, change_text, history_line};
 ghost use Rattle.mst_commands.specs.Malformed.{IsCommandFailure};
@@ -119,9 +119,8 @@ pub fn history<S: Store, W: Write>(
 ) -> Result<(), Fault>
     ensures written { Shows S.Store log.old log.new result (WritesHistory key.now json W.contents out.old out.new) }
     ensures faults { IfErr result IsCommandFailure }
-    ensures unchanged { StaysInOk S.Store log.old log.new result }
+    ensures reads { OnlyReads S.Store log.old log.new result }
     ensures device { StaysAtDevice S.Store log.old log.new result }
-    ensures crash { LeavesNoMore S.Store log.old log.new }
 {
     let entries = read_log(alloc, log)?;
     write_entries(alloc, out, &entries, key, json)

@@ -1,7 +1,7 @@
 //! The commands that read.
 ghost use Rattle.std.specs.Prelude.{◌≡◌, ◌≢◌, ◌+◌, if◌then◌else◌, ◌++◌, [], ◌∷◌, length, string_bytes, IfOk, IfErr, OnOk};
 ghost use Rattle.std.specs.Io.KnownBytes.{Appends};
-ghost use Rattle.store_table.specs.Logs.{IsSteady, Finds, Shows, Refuses, StaysInOk, LeavesNoMore};
+ghost use Rattle.store_table.specs.Logs.{Finds, Shows, Refuses, OnlyReads};
 ghost use Rattle.mst_commands.specs.Faults.{IsDevice, StaysAtDevice};
 ghost use Rattle.mst_commands.specs.Malformed.{IsCommandFailure};
 ghost use Rattle.mst_commands.specs.Reads.{IsValueAt, WritesValue, WritesList, WritesCount, WritesStatus, WritesPairs, WritesLog, WritesSifted};
@@ -27,8 +27,7 @@ fn value_at<S: Store>(alloc: Global, log: &mut Log<S>, key: &str) -> Result<Opti
     ensures said { Finds S.Store log.old log.new result (λ trees said. IsValueAt trees key.now said) }
     ensures store { IfErr result (λ why. ¬ IsDevice why) }
     ensures faults { IfErr result IsCommandFailure }
-    ensures unchanged { StaysInOk S.Store log.old log.new result }
-    ensures crash { LeavesNoMore S.Store log.old log.new }
+    ensures reads { OnlyReads S.Store log.old log.new result }
 {
     let found = latest::find(alloc, log, key)?;
     Ok(latest::value_of(found))
@@ -58,9 +57,8 @@ pub fn get<S: Store, W: Write>(
     ensures written { Shows S.Store log.old log.new result (WritesValue key.now W.contents out.old out.new) }
     ensures absent { Refuses S.Store log.old log.new result Fault.NoKey (λ trees. IsValueAt trees key.now None) }
     ensures faults { IfErr result (λ why. why ≢ Fault.NoKey → IsCommandFailure why) }
-    ensures unchanged { StaysInOk S.Store log.old log.new result }
+    ensures reads { OnlyReads S.Store log.old log.new result }
     ensures device { StaysAtDevice S.Store log.old log.new result }
-    ensures crash { LeavesNoMore S.Store log.old log.new }
 {
     let said = value_at(alloc, log, key)?;
     match said {
@@ -82,9 +80,8 @@ pub fn list<S: Store, W: Write>(
 ) -> Result<(), Fault>
     ensures written { Shows S.Store log.old log.new result (WritesList listing.now W.contents out.old out.new) }
     ensures faults { IfErr result IsCommandFailure }
-    ensures unchanged { StaysInOk S.Store log.old log.new result }
+    ensures reads { OnlyReads S.Store log.old log.new result }
     ensures device { StaysAtDevice S.Store log.old log.new result }
-    ensures crash { LeavesNoMore S.Store log.old log.new }
 {
     let mut walk = begin(alloc, log)?;
     let mut left = listing.limit;
@@ -134,9 +131,7 @@ pub fn sum_up<S: Store>(alloc: Global, log: &mut Log<S>) -> Result<(Summary, usi
     ensures numbers { Finds S.Store log.old log.new result (λ trees sum. IsSummary trees sum.0) }
     ensures rows { Finds S.Store log.old log.new result (λ trees sum. sum.1 ≡ length (trees 0)) }
     ensures faults { IfErr result IsCommandFailure }
-    ensures unchanged { StaysInOk S.Store log.old log.new result }
-    ensures steady { OnOk result (IsSteady S.Store log.old log.new) }
-    ensures crash { LeavesNoMore S.Store log.old log.new }
+    ensures reads { OnlyReads S.Store log.old log.new result }
 {
     let mut walk = begin(alloc, log)?;
     let mut summary = Summary {
@@ -161,8 +156,7 @@ pub fn sum_up<S: Store>(alloc: Global, log: &mut Log<S>) -> Result<(Summary, usi
 pub fn count<S: Store, W: Write>(alloc: Global, log: &mut Log<S>, out: &mut W) -> Result<(), Fault>
     ensures written { Shows S.Store log.old log.new result (WritesCount W.contents out.old out.new) }
     ensures faults { IfErr result IsCommandFailure }
-    ensures unchanged { StaysInOk S.Store log.old log.new result }
-    ensures crash { LeavesNoMore S.Store log.old log.new }
+    ensures reads { OnlyReads S.Store log.old log.new result }
 {
     let (summary, _rows) = sum_up(alloc, log)?;
     let text = summary.keys.to_string(alloc)?;
@@ -233,9 +227,7 @@ pub fn status<S: Store, W: Write>(
 ) -> Result<(), Fault>
     ensures written { Shows S.Store log.old log.new result (WritesStatus json name.now W.contents out.old out.new) }
     ensures faults { IfErr result IsCommandFailure }
-    ensures unchanged { StaysInOk S.Store log.old log.new result }
-    ensures steady { OnOk result (IsSteady S.Store log.old log.new) }
-    ensures crash { LeavesNoMore S.Store log.old log.new }
+    ensures reads { OnlyReads S.Store log.old log.new result }
 {
     let (summary, rows) = sum_up(alloc, log)?;
     let text = status_of(alloc, &summary, rows, name, json)?;
@@ -256,9 +248,8 @@ pub fn export<S: Store, W: Write + Drop>(
 ) -> Result<W, Fault>
     ensures written { Finds S.Store log.old log.new result (WritesPairs W.contents out) }
     ensures faults { IfErr result IsCommandFailure }
-    ensures unchanged { StaysInOk S.Store log.old log.new result }
+    ensures reads { OnlyReads S.Store log.old log.new result }
     ensures device { StaysAtDevice S.Store log.old log.new result }
-    ensures crash { LeavesNoMore S.Store log.old log.new }
 {
     let mut writer = begin_pairs(out)?;
     let mut walk = begin(alloc, log)?;
@@ -284,9 +275,8 @@ pub fn export_log<S: Store, W: Write + Drop>(
     ensures written { Finds S.Store log.old log.new result (WritesSifted W.contents out) }
     ensures whole { Finds S.Store log.old log.new result (λ trees done. done.1.items ≡ [] → WritesLog W.contents out trees done.0) }
     ensures faults { IfErr result IsCommandFailure }
-    ensures unchanged { StaysInOk S.Store log.old log.new result }
+    ensures reads { OnlyReads S.Store log.old log.new result }
     ensures device { StaysAtDevice S.Store log.old log.new result }
-    ensures crash { LeavesNoMore S.Store log.old log.new }
 {
     let Sifted { entries, bad } = sift(alloc, log)?;
     let out = write_log(alloc, out, &entries)?;

@@ -1,6 +1,6 @@
 //! A command on an open store.
 ghost use Rattle.std.specs.Prelude.{◌≡◌, IfErr, OnOk};
-ghost use Rattle.store_table.specs.Logs.{IsSteady, Makes, Leaves, LeavesNoMore, StaysInOk};
+ghost use Rattle.store_table.specs.Logs.{OnlyReads, Writes};
 ghost use Rattle.mst_commands.specs.Carries.{Carries, Compacts, ImportsInput, Puts, value_of as value_from};
 ghost use Rattle.mst_commands.specs.Faults.{IsDevice, StaysAtDevice};
 ghost use Rattle.mst_words.specs.declared.command.StoreCommand.TheVariants.{Table};
@@ -29,8 +29,7 @@ fn put_given<S: Store>(
     wanted: Option<Wanted<'_>>,
     input: Input,
 ) -> Result<(), Fault>
-    ensures carried { Makes S.Store log.old log.new result (Puts writer.now key.now (value_from input text.now) wanted.entry) }
-    ensures crash { Leaves S.Store log.old log.new (Puts writer.now key.now (value_from input text.now) wanted.entry) }
+    ensures carried { Writes S.Store log.old log.new result (Puts writer.now key.now (value_from input text.now) wanted.entry) }
 {
     let alloc = rt.alloc();
     let value = value_of(alloc, text, input)?;
@@ -42,9 +41,8 @@ fn put_given<S: Store>(
 
 /// Prints the value of a key.
 fn print_value<S: Store>(rt: &HostRuntime, log: &mut Log<S>, key: &str) -> Result<(), Fault>
-    ensures unchanged { StaysInOk S.Store log.old log.new result }
+    ensures reads { OnlyReads S.Store log.old log.new result }
     ensures device { StaysAtDevice S.Store log.old log.new result }
-    ensures crash { LeavesNoMore S.Store log.old log.new }
 {
     let mut out = BufWriter::new(rt.alloc(), io::writer(rt))?;
     get(rt.alloc(), log, &mut out, key)?;
@@ -59,9 +57,8 @@ fn print_list<S: Store>(
     selection: Selection<'_>,
     json: bool,
 ) -> Result<(), Fault>
-    ensures unchanged { StaysInOk S.Store log.old log.new result }
+    ensures reads { OnlyReads S.Store log.old log.new result }
     ensures device { StaysAtDevice S.Store log.old log.new result }
-    ensures crash { LeavesNoMore S.Store log.old log.new }
 {
     let mut out = BufWriter::new(rt.alloc(), io::writer(rt))?;
     let listing = Listing {
@@ -85,9 +82,8 @@ fn print_history<S: Store>(
     key: &str,
     json: bool,
 ) -> Result<(), Fault>
-    ensures unchanged { StaysInOk S.Store log.old log.new result }
+    ensures reads { OnlyReads S.Store log.old log.new result }
     ensures device { StaysAtDevice S.Store log.old log.new result }
-    ensures crash { LeavesNoMore S.Store log.old log.new }
 {
     let mut out = BufWriter::new(rt.alloc(), io::writer(rt))?;
     history(rt.alloc(), log, &mut out, key, json)?;
@@ -108,8 +104,7 @@ fn unless_gone(printed: Result<(), Fault>) -> Result<(), Fault>
 
 /// Prints how many keys there are.
 fn print_count<S: Store>(rt: &HostRuntime, log: &mut Log<S>) -> Result<(), Fault>
-    ensures unchanged { StaysInOk S.Store log.old log.new result }
-    ensures crash { LeavesNoMore S.Store log.old log.new }
+    ensures reads { OnlyReads S.Store log.old log.new result }
 {
     let mut out = BufWriter::new(rt.alloc(), io::writer(rt))?;
     count(rt.alloc(), log, &mut out)?;
@@ -124,9 +119,7 @@ fn print_status<S: Store>(
     writer: &str,
     json: bool,
 ) -> Result<(), Fault>
-    ensures unchanged { StaysInOk S.Store log.old log.new result }
-    ensures steady { OnOk result (IsSteady S.Store log.old log.new) }
-    ensures crash { LeavesNoMore S.Store log.old log.new }
+    ensures reads { OnlyReads S.Store log.old log.new result }
 {
     let mut out = BufWriter::new(rt.alloc(), io::writer(rt))?;
     status(rt.alloc(), log, &mut out, writer, json)?;
@@ -141,8 +134,7 @@ fn print_check<S: Store>(
     writer: &str,
     json: bool,
 ) -> Result<(), Fault>
-    ensures unchanged { StaysInOk S.Store log.old log.new result }
-    ensures crash { LeavesNoMore S.Store log.old log.new }
+    ensures reads { OnlyReads S.Store log.old log.new result }
 {
     expect_entries(rt, log)?;
     print_status(rt, log, writer, json)
@@ -150,9 +142,8 @@ fn print_check<S: Store>(
 
 /// Prints the log as CSV, but for rows that are no entries: these it names on standard error, and fails.
 fn print_log<S: Store>(rt: &HostRuntime, log: &mut Log<S>) -> Result<(), Fault>
-    ensures unchanged { StaysInOk S.Store log.old log.new result }
+    ensures reads { OnlyReads S.Store log.old log.new result }
     ensures device { StaysAtDevice S.Store log.old log.new result }
-    ensures crash { LeavesNoMore S.Store log.old log.new }
 {
     let out = BufWriter::new(rt.alloc(), io::writer(rt))?;
     let (_out, bad) = export_log(rt.alloc(), log, out)?;
@@ -161,9 +152,8 @@ fn print_log<S: Store>(rt: &HostRuntime, log: &mut Log<S>) -> Result<(), Fault>
 
 /// Prints the keys and values, or the log, as CSV.
 fn print_csv<S: Store>(rt: &HostRuntime, log: &mut Log<S>, is_log: bool) -> Result<(), Fault>
-    ensures unchanged { StaysInOk S.Store log.old log.new result }
+    ensures reads { OnlyReads S.Store log.old log.new result }
     ensures device { StaysAtDevice S.Store log.old log.new result }
-    ensures crash { LeavesNoMore S.Store log.old log.new }
 {
     if is_log {
         return print_log(rt, log);
@@ -182,8 +172,7 @@ fn import_input<S: Store>(
     ahead: bool,
     input: Input,
 ) -> Result<(), Fault>
-    ensures carried { Makes S.Store log.old log.new result (ImportsInput writer.now is_log ahead input) }
-    ensures crash { Leaves S.Store log.old log.new (ImportsInput writer.now is_log ahead input) }
+    ensures carried { Writes S.Store log.old log.new result (ImportsInput writer.now is_log ahead input) }
 {
     let time = now(rt)?;
     let limit = if is_log {
@@ -201,8 +190,7 @@ fn compact_older<S: Store>(
     log: &mut Log<S>,
     forget: Option<u64>,
 ) -> Result<(), Fault>
-    ensures carried { Makes S.Store log.old log.new result (Compacts forget) }
-    ensures crash { Leaves S.Store log.old log.new (Compacts forget) }
+    ensures carried { Writes S.Store log.old log.new result (Compacts forget) }
 {
     let before = match forget {
         Some(span) => now(rt)?.saturating_sub(span),
@@ -220,9 +208,7 @@ pub fn run<S: Store>(
     command: TableCommand<'_>,
     input: Input,
 ) -> Result<(), Fault>
-    ensures carried { Makes S.Store log.old log.new result (Carries (Table command.entry) writer.now input) }
-    // A crash leaves what it could leave before, or trees with what the command writes.
-    ensures crash { Leaves S.Store log.old log.new (Carries (Table command.entry) writer.now input) }
+    ensures carried { Writes S.Store log.old log.new result (Carries (Table command.entry) writer.now input) }
 {
     match command {
         TableCommand::Put {

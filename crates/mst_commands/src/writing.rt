@@ -3,7 +3,7 @@ ghost use Rattle.std.specs.Prelude.{◌≡◌, ◌≢◌, ◌≤◌, ◌<◌, �
 ghost use Rattle.key_order.specs.Text.{text_order};
 ghost use Rattle.key_order.specs.Map.{IsMap};
 ghost use Rattle.store_table.specs.Latest.{IsThere};
-ghost use Rattle.store_table.specs.Logs.{IsSteady, trees_of, Finds, Makes, Shows, Refuses, StaysInOk, StaysInErr, LeavesNoMore, Leaves};
+ghost use Rattle.store_table.specs.Logs.{trees_of, Finds, Shows, Refuses, OnlyReads, Writes};
 ghost use Rattle.store_table.specs.Values.{bytes_of_value};
 ghost use Rattle.mst_commands.specs.Faults.{IsAhead, IsTooLong};
 ghost use Rattle.mst_commands.specs.Writes.{is_met as says_it, is_text as is_same_text, IsMet, WritesBy, WritesIf};
@@ -71,16 +71,12 @@ pub fn put_value<S: Store>(
     key: &str,
     value: Value,
 ) -> Result<(), Fault>
-    ensures written { Makes S.Store log.old log.new result (WritesBy key.now writer.now now (Some value)) }
+    ensures written { Writes S.Store log.old log.new result (WritesBy key.now writer.now now (Some value)) }
     // A key or a value that is too long is refused, and nothing is written.
     ensures fits { OnOk result (length key.now ≤ MOST × length (bytes_of_value value) ≤ MOST) }
     ensures long { IfErr result (λ why. IsTooLong why → MOST < length key.now ⊎ MOST < length (bytes_of_value value)) }
     ensures untouched { IfErr result (λ why. IsTooLong why → log.new ≡ log.old) }
-    ensures refused { StaysInErr S.Store log.old log.new result }
-    ensures steady { IsSteady S.Store log.old log.new }
     ensures faults { IfErr result (λ why. ¬ IsTooLong why → IsCommandFailure why) }
-    // A crash leaves what it could leave before, or trees with the write.
-    ensures crash { Leaves S.Store log.old log.new (WritesBy key.now writer.now now (Some value)) }
 {
     within(key.as_bytes(), "the key")?;
     within(value.as_bytes(), "the value")?;
@@ -122,10 +118,7 @@ fn expect<S: Store>(
     ensures met { Shows S.Store log.old log.new result (IsMet wanted.entry key.now true) }
     ensures unmet { Refuses S.Store log.old log.new result Fault.Unmet (IsMet wanted.entry key.now false) }
     ensures faults { IfErr result (λ why. why ≢ Fault.Unmet → IsCommandFailure why) }
-    ensures unchanged { StaysInOk S.Store log.old log.new result }
-    ensures refused { StaysInErr S.Store log.old log.new result }
-    ensures steady { IsSteady S.Store log.old log.new }
-    ensures crash { LeavesNoMore S.Store log.old log.new }
+    ensures reads { OnlyReads S.Store log.old log.new result }
 {
     let said = value_of(find(alloc, log, key)?);
     if is_met(wanted, &said) {
@@ -149,12 +142,9 @@ pub fn put_if<S: Store>(
     value: Value,
     wanted: Wanted<'_>,
 ) -> Result<(), Fault>
-    ensures written { Makes S.Store log.old log.new result (WritesIf wanted.entry key.now writer.now now (Some value)) }
+    ensures written { Writes S.Store log.old log.new result (WritesIf wanted.entry key.now writer.now now (Some value)) }
     ensures unmet { Refuses S.Store log.old log.new result Fault.Unmet (IsMet wanted.entry key.now false) }
-    ensures refused { StaysInErr S.Store log.old log.new result }
     ensures faults { IfErr result (λ why. why ≢ Fault.Unmet → ¬ IsTooLong why → IsCommandFailure why) }
-    // A crash leaves what it could leave before, or trees with the write.
-    ensures crash { Leaves S.Store log.old log.new (WritesIf wanted.entry key.now writer.now now (Some value)) }
 {
     expect(alloc, log, key, wanted)?;
     put_value(alloc, log, writer, now, key, value)
@@ -172,15 +162,12 @@ pub fn del<S: Store>(
     now: u64,
     key: &str,
 ) -> Result<(), Fault>
-    ensures written { Makes S.Store log.old log.new result (WritesBy key.now writer.now now None) }
+    ensures written { Writes S.Store log.old log.new result (WritesBy key.now writer.now now None) }
     ensures there { Shows S.Store log.old log.new result (λ trees. IsThere trees key.now true) }
     // Where the key isn't there, nothing is written.
     ensures absent { Refuses S.Store log.old log.new result Fault.NoKey (λ trees. IsThere trees key.now false) }
     ensures untouched { Refuses S.Store log.old log.new result Fault.NoKey (λ trees. trees_of S.Store log.new ≡ trees) }
-    ensures refused { StaysInErr S.Store log.old log.new result }
     ensures faults { IfErr result (λ why. why ≢ Fault.NoKey → IsCommandFailure why) }
-    // A crash leaves what it could leave before, or trees with the removal.
-    ensures crash { Leaves S.Store log.old log.new (WritesBy key.now writer.now now None) }
 {
     let writer = String::from_str(alloc, writer)?;
     let there = remove(alloc, log, writer, now, key)?;
@@ -299,10 +286,7 @@ fn entries_to_add<S: Store>(
     limit: Option<u64>,
 ) -> Result<Entries, Fault>
     ensures added { Finds S.Store log.old log.new result (λ trees added. AddsOf limit writer.now now trees came.items added.items) }
-    ensures unchanged { StaysInOk S.Store log.old log.new result }
-    ensures refused { StaysInErr S.Store log.old log.new result }
-    ensures steady { IsSteady S.Store log.old log.new }
-    ensures crash { LeavesNoMore S.Store log.old log.new }
+    ensures reads { OnlyReads S.Store log.old log.new result }
     ensures faults { IfErr result (λ why. ¬ IsAhead why → IsCommandFailure why) }
 {
     let rows = read_latest(alloc, log)?;
@@ -329,12 +313,9 @@ pub fn import<S: Store>(
     came: Entries,
     limit: Option<u64>,
 ) -> Result<(), Fault>
-    ensures written { Makes S.Store log.old log.new result (Imports came.items limit writer.now now) }
-    ensures refused { StaysInErr S.Store log.old log.new result }
+    ensures written { Writes S.Store log.old log.new result (Imports came.items limit writer.now now) }
     // But for an entry of a log that is too late it fails only if memory or the store does.
     ensures faults { IfErr result (λ why. ¬ IsAhead why → IsCommandFailure why) }
-    // A crash leaves what it could leave before, or trees with all that is imported.
-    ensures crash { Leaves S.Store log.old log.new (Imports came.items limit writer.now now) }
 {
     let added = entries_to_add(alloc, log, writer, now, came, limit)?;
     add_all(alloc, log, &added)?;

@@ -1,35 +1,19 @@
 -- What a compaction leaves.
-use Rattle.std.proofs.Common.{◌≡◌, ◌⊎◌, inl, inr, ℕ, List, map, filter, length, sym, ap, subst, ◌∙◌, arith}
+use Rattle.std.proofs.Common.{◌≡◌, ℕ, List, map, filter, length, sym, ap, ◌∙◌}
 use Rattle.std.specs.declared.cmp.Ordering.TheVariants.{Less}
 use Rattle.std.specs.List.{Contains}
 use Rattle.std.proofs.lemmas.List.{length-map}
 use Rattle.std.proofs.lemmas.List.Elements.{All-contains_itself, All-filter, All-contains}
 use Rattle.key_order.specs.Text.{Text as Key, text_order}
 use Rattle.key_order.specs.Map.{IsMap}
-use Rattle.sqlite_trees.specs.declared.store.Store.{Ghosts}
 use Rattle.sqlite_trees.specs.Tree.{Trees, IsAscending}
 use Rattle.sqlite_trees.proofs.ListLemmas.{ascending-filter}
 use Rattle.store_table.specs.declared.register.Register.{Register}
 use Rattle.store_table.specs.Changes.{HasInstead}
 use Rattle.store_table.specs.Entries.{entry_row, entry_order}
-use Rattle.store_table.specs.Logs.{IsClean, IsSteady, Leaves, LeavesNoMore, trees_of}
 use Rattle.store_table.specs.Registers.{HaveLateTime}
-use Rattle.store_table.specs.Rows.{stays, HasLatestRows, IsCompacted}
+use Rattle.store_table.specs.Rows.{stays}
 use Rattle.store_table.proofs.OrderOfEntries.{with_ascending, ascending_map}
-
--- a crash in a compaction leaves it whole, or what could be left before
-pub compacts : {S : Type 0} (g : Ghosts S) (before : ℕ) (rows : List (Key × Register)) (old mid new : S) → IsSteady g old mid
-    → (IsClean g mid → HasLatestRows (trees_of g old) rows) → (IsClean g mid → trees_of g mid ≡ trees_of g old) → LeavesNoMore g old mid
-    → Leaves g mid new (HasInstead (map entry_row (filter (stays before) rows))) → Leaves g old new (IsCompacted before)
-compacts g before rows old mid new steady latest same no_more leaves trees left = by (leaves trees left)
-  where
-    first : IsClean g mid → IsClean g old
-    first clean = omega (arith, steady.clean, clean)
-
-    by : (IsClean g mid × HasInstead (map entry_row (filter (stays before) rows)) (trees_of g mid) trees) ⊎ g.recovers mid trees
-        → (IsClean g old × IsCompacted before (trees_of g old) trees) ⊎ g.recovers old trees
-    by (inl at) = inl (first at.0, (rows, latest at.0, subst (λ t. HasInstead (map entry_row (filter (stays before) rows)) t trees) (same at.0) at.1))
-    by (inr r) = inr (no_more trees r)
 
 -- as many rows are left as were put in place of the table's own
 pub as_many_left : (before : ℕ) (rows : List (Key × Register)) (old new : Trees) → IsMap text_order rows → HasInstead (map entry_row (filter (stays before) rows)) old new

@@ -1,5 +1,6 @@
 pub mod Appended
 pub mod Ascending
+pub mod Calls
 pub mod Committing
 pub mod Compacting
 pub mod Grouping
@@ -12,4 +13,3 @@ pub mod Reading
 pub mod RowLemmas
 pub mod SiftLemmas
 pub mod Walking
-pub mod Writing

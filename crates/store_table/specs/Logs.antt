@@ -78,3 +78,17 @@ module _ {S : Type 0} (g : Ghosts S) where
     -- over a clean disk, while it is open, the trees are as they were in `Err`
     abbrev pub StaysInErr : Type 0
     StaysInErr = IsClean new → IsOpen new → OnErr result (trees_of new ≡ trees_of old)
+
+    -- the call only reads: on a clean disk the trees stay as they were, and a crash may leave no more than before
+    pub record OnlyReads : Type 0 where
+      pub unchanged : StaysInOk
+      pub refused : StaysInErr
+      pub steady : IsSteady old new
+      pub crash : LeavesNoMore old new
+
+    -- the call makes of the trees what `Is` says, or nothing: on a clean disk the first in `Ok`, the second in `Err`, and a crash leaves one of the two
+    pub record Writes (Is : Trees → Trees → Type 0) : Type 0 where
+      pub made : Makes Is
+      pub refused : StaysInErr
+      pub steady : IsSteady old new
+      pub crash : Leaves old new Is

@@ -7,7 +7,7 @@ ghost use Rattle.store_table.specs.Changes.{IsBlank, IsNewStore, HasNoteMore};
 ghost use Rattle.store_table.specs.Entries.{note_in, note_row};
 ghost use Rattle.store_table.specs.Notes.{IsOtherStore, Notes, NotesFormat};
 ghost use Rattle.store_table.specs.Faults.{IsFailure, IsForeign};
-ghost use Rattle.store_table.specs.Logs.{HasTables, IsLog, IsClean, IsSteady, Finds, Makes, Refuses, StaysInOk, StaysInErr, Leaves, LeavesNoMore};
+ghost use Rattle.store_table.specs.Logs.{HasTables, IsLog, IsClean, Finds, Makes, Refuses, OnlyReads, Writes};
 ghost use Rattle.store_table.specs.Transactions.{CommitsNothing, IsTransaction};
 ghost use Rattle.store_table.specs.Walks.{StaysBut, MakesView};
 
@@ -126,10 +126,7 @@ pub fn about<S: Store>(alloc: Global, log: &mut Log<S>) -> Result<Note, StoreFau
     ensures noted { Finds S.Store log.old log.new result Notes }
     ensures foreign { Refuses S.Store log.old log.new result StoreFault.Foreign IsForeign }
     ensures faults { IfErr result (λ why. why ≢ StoreFault.Foreign → IsFailure why) }
-    ensures unchanged { StaysInOk S.Store log.old log.new result }
-    ensures refused { StaysInErr S.Store log.old log.new result }
-    ensures steady { IsSteady S.Store log.old log.new }
-    ensures crash { LeavesNoMore S.Store log.old log.new }
+    ensures reads { OnlyReads S.Store log.old log.new result }
 {
     let read = read_note(alloc, &mut log.trees);
     settled(&mut log.trees, read)
@@ -163,10 +160,7 @@ pub fn recognise<S: Store>(alloc: Global, log: &mut Log<S>) -> Result<Note, Stor
     ensures foreign { Refuses S.Store log.old log.new result StoreFault.Foreign IsForeign }
     ensures other { (n : ℤ) → Refuses S.Store log.old log.new result (StoreFault.Format n) (NotesFormat n) }
     ensures faults { IfErr result (λ why. IsFailure why ⊎ IsOtherStore why) }
-    ensures unchanged { StaysInOk S.Store log.old log.new result }
-    ensures refused { StaysInErr S.Store log.old log.new result }
-    ensures steady { IsSteady S.Store log.old log.new }
-    ensures crash { LeavesNoMore S.Store log.old log.new }
+    ensures reads { OnlyReads S.Store log.old log.new result }
 {
     let note = about(alloc, log)?;
     in_format(note)
@@ -273,11 +267,8 @@ pub fn create<S: Store>(
     writer: &str,
     hash_key: &[u8; HASH_KEY_LEN],
 ) -> Result<(), StoreFault>
-    ensures created { Makes S.Store log.old log.new result (λ _. IsNewStore FORMAT writer.now hash_key.now) }
+    ensures created { Writes S.Store log.old log.new result (λ _. IsNewStore FORMAT writer.now hash_key.now) }
     ensures foreign { Refuses S.Store log.old log.new result StoreFault.Foreign (λ trees. ¬ IsBlank trees) }
-    ensures refused { StaysInErr S.Store log.old log.new result }
-    ensures steady { IsSteady S.Store log.old log.new }
-    ensures crash { Leaves S.Store log.old log.new (λ _. IsNewStore FORMAT writer.now hash_key.now) }
 {
     let done = commit_note(alloc, &mut log.trees, writer, hash_key);
     settled(&mut log.trees, done)

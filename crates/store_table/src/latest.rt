@@ -5,7 +5,7 @@ ghost use Rattle.sqlite_value.specs.Order.{column, value_cmp};
 ghost use Rattle.sqlite_value.specs.declared.value.Value.TheVariants.{Text as Words};
 ghost use Rattle.store_table.specs.Faults.{IsFailure, IsUnwritten};
 ghost use Rattle.store_table.specs.Latest.{said_by, IsLastRow, IsLatestAt, IsThere, IsWrittenLate, HasWriteOver, WritesOver, Removes};
-ghost use Rattle.store_table.specs.Logs.{IsLog, IsSteady, Finds, Makes, MakesAndFinds, Refuses, StaysInOk, StaysInErr, Leaves, LeavesNoMore};
+ghost use Rattle.store_table.specs.Logs.{IsLog, IsSteady, Finds, MakesAndFinds, Refuses, StaysInErr, Leaves, OnlyReads, Writes};
 ghost use Rattle.store_table.specs.Registers.{time_after, HasLastTime};
 ghost use Rattle.store_table.specs.Transactions.{CommitsNothing};
 ghost use Rattle.store_table.specs.Walks.{StaysBut, MakesView};
@@ -89,10 +89,7 @@ pub fn find<S: Store>(
 ) -> Result<Option<Register>, StoreFault>
     ensures latest { Finds S.Store log.old log.new result (λ trees found. IsLatestAt trees key.now found) }
     ensures failed { IfErr result IsFailure }
-    ensures unchanged { StaysInOk S.Store log.old log.new result }
-    ensures refused { StaysInErr S.Store log.old log.new result }
-    ensures steady { IsSteady S.Store log.old log.new }
-    ensures crash { LeavesNoMore S.Store log.old log.new }
+    ensures reads { OnlyReads S.Store log.old log.new result }
 {
     let found = last_register(alloc, &mut log.trees, key);
     settled(&mut log.trees, found)
@@ -136,12 +133,9 @@ fn write_over<S: Store>(
     found: &Option<Register>,
     value: Option<Value>,
 ) -> Result<(), StoreFault>
-    ensures written { Makes S.Store log.old log.new result (HasWriteOver key.now found.now writer now value) }
+    ensures written { Writes S.Store log.old log.new result (HasWriteOver key.now found.now writer now value) }
     ensures late { IsErrOf result StoreFault.Time → 2 ^ 63 ≤ time_after found.now now }
     ensures faults { IfErr result IsUnwritten }
-    ensures refused { StaysInErr S.Store log.old log.new result }
-    ensures steady { IsSteady S.Store log.old log.new }
-    ensures crash { Leaves S.Store log.old log.new (HasWriteOver key.now found.now writer now value) }
 {
     let time = later_time(found, now)?;
     let register = Register {
@@ -171,13 +165,9 @@ pub fn put<S: Store>(
     key: &str,
     value: Value,
 ) -> Result<(), StoreFault>
-    ensures written { Makes S.Store log.old log.new result (WritesOver key.now writer now (Some value)) }
+    ensures written { Writes S.Store log.old log.new result (WritesOver key.now writer now (Some value)) }
     ensures late { Refuses S.Store log.old log.new result StoreFault.Time (λ trees. IsWrittenLate trees key.now now) }
     ensures faults { IfErr result IsUnwritten }
-    ensures refused { StaysInErr S.Store log.old log.new result }
-    ensures steady { IsSteady S.Store log.old log.new }
-    // A crash leaves what it could leave before, or trees with the write.
-    ensures crash { Leaves S.Store log.old log.new (WritesOver key.now writer now (Some value)) }
 {
     let found = find(alloc, log, key)?;
     write_over(alloc, log, writer, now, key, &found, Some(value))

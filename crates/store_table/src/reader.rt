@@ -1,7 +1,7 @@
 //! The entries of a log, and the latest of each key, one after the other, in the memory of a few rows.
 ghost use Rattle.std.specs.Prelude.{◌≡◌, ◌+◌, [], None, IsSome, IfOk, IfErr, OnOk};
 ghost use Rattle.store_table.specs.Faults.{IsFailure};
-ghost use Rattle.store_table.specs.Logs.{HasTables, IsClean, IsSteady, StaysInErr, LeavesNoMore};
+ghost use Rattle.store_table.specs.Logs.{HasTables, IsClean, OnlyReads};
 ghost use Rattle.store_table.specs.Reading.{TakesEntry, EndsGroup, IsWalked, ReadsOn, ReadsAll, WalksOn, WalksAll};
 ghost use Rattle.store_table.specs.Transactions.{CommitsNothing};
 ghost use Rattle.store_table.specs.Walks.{StaysBut, WasSound, GivesAll, MakesView, MakesViewAndFinds};
@@ -55,9 +55,7 @@ fn seek_first<S: Store>(alloc: Global, trees: &mut S) -> Result<(), StoreFault>
 pub fn begin<S: Store>(alloc: Global, log: &mut Log<S>) -> Result<Walk, StoreFault>
     ensures begun { IfOk result (λ walk. IsWalked S.Store log.old log.new walk []) }
     ensures failed { IfErr result IsFailure }
-    ensures refused { StaysInErr S.Store log.old log.new result }
-    ensures steady { IsSteady S.Store log.old log.new }
-    ensures crash { LeavesNoMore S.Store log.old log.new }
+    ensures reads { OnlyReads S.Store log.old log.new result }
 {
     match seek_first(alloc, &mut log.trees) {
         Ok(()) => Ok(Walk {
@@ -102,9 +100,7 @@ fn next_entry<S: Store>(
     ensures failed { IfErr result IsFailure }
     ensures live { OnOk result (IsSome ((S.Store.view log.new).cursors 0)) }
     ensures same { MakesView S.Store log.old log.new result StaysBut }
-    ensures refused { StaysInErr S.Store log.old log.new result }
-    ensures steady { IsSteady S.Store log.old log.new }
-    ensures crash { LeavesNoMore S.Store log.old log.new }
+    ensures reads { OnlyReads S.Store log.old log.new result }
 {
     match take_entry(alloc, &mut log.trees, row) {
         Ok(found) => Ok(found),
@@ -156,9 +152,7 @@ pub fn next_latest<S: Store>(
     ensures failed { IfErr result IsFailure }
     ensures live { OnOk result (IsSome ((S.Store.view log.new).cursors 0)) }
     ensures same { MakesView S.Store log.old log.new result StaysBut }
-    ensures refused { StaysInErr S.Store log.old log.new result }
-    ensures steady { IsSteady S.Store log.old log.new }
-    ensures crash { LeavesNoMore S.Store log.old log.new }
+    ensures reads { OnlyReads S.Store log.old log.new result }
 {
     'entries: for _ in 0..u64::MAX {
         let Some(entry) = next_entry(alloc, log, &mut walk.row)? else {

@@ -4,7 +4,7 @@ ghost use Rattle.std.specs.Option.{option_copied};
 ghost use Rattle.key_order.specs.Text.{text_order};
 ghost use Rattle.key_order.specs.Map.{IsMap, get};
 ghost use Rattle.key_order.specs.Places.{IsPlaceOf, IsGapFor};
-ghost use Rattle.store_table.specs.Logs.{IsSteady, Finds, Makes, MakesAndFinds, Refuses, StaysInOk, StaysInErr, Leaves, LeavesNoMore};
+ghost use Rattle.store_table.specs.Logs.{Finds, MakesAndFinds, Refuses, OnlyReads, Writes};
 ghost use Rattle.store_table.specs.Faults.{IsFailure, IsUnwritten};
 ghost use Rattle.store_table.specs.Rows.{AreLatest, HasLatestRows, HasLateRow, IsCompacted, stays};
 
@@ -47,10 +47,7 @@ pub fn latest_rows(entries: Entries) -> Entries
 pub fn read_latest<S: Store>(alloc: Global, log: &mut Log<S>) -> Result<Entries, StoreFault>
     ensures latest { Finds S.Store log.old log.new result (λ trees rows. HasLatestRows trees rows.items) }
     ensures failed { IfErr result IsFailure }
-    ensures unchanged { StaysInOk S.Store log.old log.new result }
-    ensures refused { StaysInErr S.Store log.old log.new result }
-    ensures steady { IsSteady S.Store log.old log.new }
-    ensures crash { LeavesNoMore S.Store log.old log.new }
+    ensures reads { OnlyReads S.Store log.old log.new result }
 {
     Ok(latest_rows(read_log(alloc, log)?))
 }
@@ -97,14 +94,10 @@ fn forget(rows: &mut Entries, before: u64)
 ///
 /// [`StoreFault::Database`], [`StoreFault::Malformed`] and [`StoreFault::Memory`]: the file is then as it was.
 pub fn compact<S: Store>(alloc: Global, log: &mut Log<S>, before: u64) -> Result<usize, StoreFault>
-    ensures compacted { Makes S.Store log.old log.new result (IsCompacted before) }
+    ensures compacted { Writes S.Store log.old log.new result (IsCompacted before) }
     ensures left { MakesAndFinds S.Store log.old log.new result (λ _ trees left. left ≡ length (trees 0)) }
     ensures late { Refuses S.Store log.old log.new result StoreFault.Time HasLateRow }
     ensures faults { IfErr result IsUnwritten }
-    ensures refused { StaysInErr S.Store log.old log.new result }
-    ensures steady { IsSteady S.Store log.old log.new }
-    // A crash leaves what it could leave before, or the compacted table.
-    ensures crash { Leaves S.Store log.old log.new (IsCompacted before) }
 {
     let mut rows = read_latest(alloc, log)?;
     forget(&mut rows, before);

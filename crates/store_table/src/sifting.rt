@@ -2,7 +2,7 @@
 ghost use Rattle.std.specs.Prelude.{◌≡◌, ◌+◌, [], ◌∷◌, ◌++◌, length, IfErr, OnOk};
 ghost use Rattle.store_table.specs.Entries.{HoldsEntries};
 ghost use Rattle.store_table.specs.Faults.{IsFailure};
-ghost use Rattle.store_table.specs.Logs.{HasTables, IsClean, IsSteady, Finds, StaysInOk, StaysInErr, LeavesNoMore};
+ghost use Rattle.store_table.specs.Logs.{HasTables, IsClean, Finds, OnlyReads};
 ghost use Rattle.store_table.specs.Sifting.{AreSifted, TakesIn};
 ghost use Rattle.store_table.specs.Transactions.{CommitsNothing};
 ghost use Rattle.store_table.specs.Walks.{StaysBut, WasSound, MakesView};
@@ -123,10 +123,7 @@ pub fn sift<S: Store>(alloc: Global, log: &mut Log<S>) -> Result<Sifted, StoreFa
     // Without such rows the entries are those of the log.
     ensures whole { Finds S.Store log.old log.new result (λ trees sifted. sifted.bad.items ≡ [] → HoldsEntries trees sifted.entries.items) }
     ensures failed { IfErr result IsFailure }
-    ensures unchanged { StaysInOk S.Store log.old log.new result }
-    ensures refused { StaysInErr S.Store log.old log.new result }
-    ensures steady { IsSteady S.Store log.old log.new }
-    ensures crash { LeavesNoMore S.Store log.old log.new }
+    ensures reads { OnlyReads S.Store log.old log.new result }
 {
     let read = sift_all(alloc, &mut log.trees);
     settled(&mut log.trees, read)

@@ -3,7 +3,7 @@ ghost use Rattle.std.specs.Prelude.{◌≡◌, ◌≤◌, ◌^◌, IfErr, IsErrO
 ghost use Rattle.store_table.specs.Changes.{HasOneMore, HasEntriesMore, HasEntriesInstead};
 ghost use Rattle.store_table.specs.Entries.{HoldsEntries};
 ghost use Rattle.store_table.specs.Faults.{IsFailure, IsUnwritten};
-ghost use Rattle.store_table.specs.Logs.{IsLog, IsSteady, Finds, Makes, StaysInOk, StaysInErr, Leaves, LeavesNoMore};
+ghost use Rattle.store_table.specs.Logs.{IsLog, Finds, OnlyReads, Writes};
 ghost use Rattle.store_table.specs.Registers.{HaveLateTime};
 ghost use Rattle.store_table.specs.Transactions.{IsTransaction};
 
@@ -24,10 +24,7 @@ use std::alloc::Global;
 pub fn read_log<S: Store>(alloc: Global, log: &mut Log<S>) -> Result<Entries, StoreFault>
     ensures held { Finds S.Store log.old log.new result (λ trees entries. HoldsEntries trees entries.items) }
     ensures failed { IfErr result IsFailure }
-    ensures unchanged { StaysInOk S.Store log.old log.new result }
-    ensures refused { StaysInErr S.Store log.old log.new result }
-    ensures steady { IsSteady S.Store log.old log.new }
-    ensures crash { LeavesNoMore S.Store log.old log.new }
+    ensures reads { OnlyReads S.Store log.old log.new result }
 {
     let read = all_entries(alloc, &mut log.trees);
     settled(&mut log.trees, read)
@@ -61,12 +58,9 @@ pub fn add<S: Store>(
     key: &str,
     register: &Register,
 ) -> Result<(), StoreFault>
-    ensures added { Makes S.Store log.old log.new result (HasOneMore key.now register.now) }
+    ensures added { Writes S.Store log.old log.new result (HasOneMore key.now register.now) }
     ensures late { IsErrOf result StoreFault.Time → 2 ^ 63 ≤ register.now.time }
     ensures faults { IfErr result IsUnwritten }
-    ensures refused { StaysInErr S.Store log.old log.new result }
-    ensures steady { IsSteady S.Store log.old log.new }
-    ensures crash { Leaves S.Store log.old log.new (HasOneMore key.now register.now) }
 {
     let done = commit_one(alloc, &mut log.trees, key, register);
     settled(&mut log.trees, done)
@@ -98,12 +92,9 @@ pub fn add_all<S: Store>(
     log: &mut Log<S>,
     entries: &[(String, Register)],
 ) -> Result<(), StoreFault>
-    ensures added { Makes S.Store log.old log.new result (HasEntriesMore entries.now) }
+    ensures added { Writes S.Store log.old log.new result (HasEntriesMore entries.now) }
     ensures late { IsErrOf result StoreFault.Time → HaveLateTime entries.now }
     ensures faults { IfErr result IsUnwritten }
-    ensures refused { StaysInErr S.Store log.old log.new result }
-    ensures steady { IsSteady S.Store log.old log.new }
-    ensures crash { Leaves S.Store log.old log.new (HasEntriesMore entries.now) }
 {
     let done = commit_more(alloc, &mut log.trees, entries);
     settled(&mut log.trees, done)
@@ -135,12 +126,9 @@ pub fn replace_all<S: Store>(
     log: &mut Log<S>,
     entries: &[(String, Register)],
 ) -> Result<(), StoreFault>
-    ensures replaced { Makes S.Store log.old log.new result (HasEntriesInstead entries.now) }
+    ensures replaced { Writes S.Store log.old log.new result (HasEntriesInstead entries.now) }
     ensures late { IsErrOf result StoreFault.Time → HaveLateTime entries.now }
     ensures faults { IfErr result IsUnwritten }
-    ensures refused { StaysInErr S.Store log.old log.new result }
-    ensures steady { IsSteady S.Store log.old log.new }
-    ensures crash { Leaves S.Store log.old log.new (HasEntriesInstead entries.now) }
 {
     let done = commit_instead(alloc, &mut log.trees, entries);
     settled(&mut log.trees, done)

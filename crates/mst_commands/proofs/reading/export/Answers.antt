@@ -1,5 +1,7 @@
 use Rattle.std.proofs.Common.{◌++◌, ◌∷◌, [], Option, subst}
+use Rattle.std.proofs.lemmas.Result.{err_from_is_err_and}
 use Rattle.key_order.specs.Text.{Text as Key}
+use Rattle.store_table.proofs.Calls.{walk_reads, walk_then}
 use Rattle.store_table.proofs.Outcomes.{if_ok}
 use Rattle.store_table.specs.Reading.{WalksOn}
 use Rattle.store_table.specs.declared.register.Register.{Register}
@@ -13,6 +15,26 @@ returns-in_default-clause-written g c clean =
     let (given, walked, wrote) = c.rows.invariant in
     let all = c.in_ok-row.ensures.all c.in_default.is clean c.args.log.now given walked in
     if_ok c.finish.result _ _ (λ out kept. (given, all.0, written_out g.W.Write.contents c.args.out out c.rows.writer (pairs_text given) wrote kept)) c.finish.ensures.kept
+
+pub returns-in_err-row-clause-reads : goal.returns-in_err-row-clause-reads
+returns-in_err-row-clause-reads g c =
+    let (given, walked, wrote) = c.rows.invariant in
+    walk_then g.S.Store _ _ _ _ _ _ walked.read c.in_err-row.ensures.reads (rw (err_from_is_err_and c.from_residual-in_err-row.result c.from_residual-in_err-row.ensures.1).1 tt)
+
+pub returns-in_default-clause-reads : goal.returns-in_default-clause-reads
+returns-in_default-clause-reads g c =
+    let (given, walked, wrote) = c.rows.invariant in
+    walk_reads g.S.Store _ _ _ _ (c.in_ok-row.ensures.walked c.args.log.now given walked).read
+
+pub returns-in_err-write_row-clause-reads : goal.returns-in_err-write_row-clause-reads
+returns-in_err-write_row-clause-reads g c =
+    let (given, walked, wrote) = c.rows.invariant in
+    walk_reads g.S.Store _ _ _ _ (c.in_ok-row.ensures.walked c.args.log.now given walked).read
+
+pub returns-clause-reads : goal.returns-clause-reads
+returns-clause-reads g c =
+    let (given, walked, wrote) = c.rows.invariant in
+    walk_reads g.S.Store _ _ _ _ walked.read
 
 pub rows-preserved : goal.rows-preserved
 rows-preserved g c =

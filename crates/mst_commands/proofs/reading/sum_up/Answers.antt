@@ -1,8 +1,9 @@
 use Rattle.std.proofs.Common.{◌++◌, ◌∷◌, [], Option, subst, ◌∙◌}
+use Rattle.std.proofs.lemmas.Result.{err_from_is_err_and}
 use Rattle.key_order.specs.Text.{Text as Key}
 use Rattle.store_table.specs.Reading.{WalksOn}
 use Rattle.store_table.specs.declared.register.Register.{Register}
-use Rattle.store_table.proofs.Walking.{steady_then}
+use Rattle.store_table.proofs.Calls.{walk_reads, walk_then}
 use Rattle.mst_commands.proofs.reading.sum_up.Goals as goal
 
 pub returns-in_default-clause-numbers : goal.returns-in_default-clause-numbers
@@ -15,10 +16,25 @@ returns-in_default-clause-rows g c clean =
     let (given, walked, numbers) = c.rows.invariant in
     c.count.ensures ∙ (c.in_ok-row.ensures.all c.in_default.is clean c.args.log.now given walked).1
 
-pub returns-in_default-clause-steady : goal.returns-in_default-clause-steady
-returns-in_default-clause-steady g c =
+pub returns-in_err-row-clause-reads : goal.returns-in_err-row-clause-reads
+returns-in_err-row-clause-reads g c =
     let (given, walked, numbers) = c.rows.invariant in
-    steady_then g.S.Store c.args.log.now c.rows.log c.next_latest.new.log walked.read.steady c.next_latest.ensures.steady
+    walk_then g.S.Store _ _ _ _ _ _ walked.read c.in_err-row.ensures.reads (rw (err_from_is_err_and c.from_residual-in_err-row.result c.from_residual-in_err-row.ensures.1).1 tt)
+
+pub returns-in_default-clause-reads : goal.returns-in_default-clause-reads
+returns-in_default-clause-reads g c =
+    let (given, walked, numbers) = c.rows.invariant in
+    walk_reads g.S.Store _ _ _ _ (c.in_ok-row.ensures.walked c.args.log.now given walked).read
+
+pub returns-in_err-summary-clause-reads : goal.returns-in_err-summary-clause-reads
+returns-in_err-summary-clause-reads g c =
+    let (given, walked, numbers) = c.rows.invariant in
+    walk_reads g.S.Store _ _ _ _ (c.in_ok-row.ensures.walked c.args.log.now given walked).read
+
+pub returns-clause-reads : goal.returns-clause-reads
+returns-clause-reads g c =
+    let (given, walked, numbers) = c.rows.invariant in
+    walk_reads g.S.Store _ _ _ _ walked.read
 
 pub rows-preserved : goal.rows-preserved
 rows-preserved g c =

@@ -1,7 +1,5 @@
-use Rattle.mst_commands.proofs.CarryLemmas.{stays_then}
+use Rattle.store_table.proofs.Calls.{alike, reads_then}
 use Rattle.mst_commands.proofs.run.print_check.Goals as goal
 
-pub returns-clause-unchanged : goal.returns-clause-unchanged
-returns-clause-unchanged g c clean =
-    stays_then g.S.Store c.args.log.now c.expect_entries.new.log c.print_status.new.log c.print_status.result clean c.print_status.ensures.steady (c.print_status.ensures.unchanged clean)
-    c.in_ok-expect_entries.ensures.unchanged
+pub returns : goal.returns
+returns g c = record { reads = reads_then g.S.Store _ _ _ _ _ _ c.in_ok-expect_entries.ensures.reads tt c.print_status.ensures.reads (alike _) }

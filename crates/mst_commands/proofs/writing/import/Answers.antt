@@ -1,25 +1,21 @@
-use Rattle.std.proofs.Common.{arith}
-use Rattle.store_table.specs.Logs.{IsClean, trees_of}
-use Rattle.mst_commands.proofs.WriteLemmas.{imported, import_leaves}
+use Rattle.std.proofs.Common.{map}
+use Rattle.std.proofs.lemmas.Result.{err_from_is_err_and}
+use Rattle.store_table.specs.Changes.{HasMore}
+use Rattle.store_table.specs.Entries.{entry_row}
+use Rattle.store_table.proofs.Calls.{writes_then}
+use Rattle.mst_commands.specs.Imports.{Imports}
 use Rattle.mst_commands.proofs.writing.import.Goals as goal
 
 pub returns-clause-written : goal.returns-clause-written
-returns-clause-written g c clean =
-    let s = g.S.Store in
-    let mid = c.entries_to_add.new.log in
-    let early : IsClean s mid = omega (arith, c.add_all.ensures.steady.clean, clean) in
-    imported c.args.limit c.args.writer.now c.args.now c.args.came.items c.deref.result.now
-    (trees_of s c.args.log.now) (trees_of s mid) (trees_of s c.add_all.new.log) (c.in_ok-added.ensures.unchanged early)
-    (rw (← c.deref.ensures.value) at (c.in_ok-added.ensures.added early)) (c.in_ok-add_all.ensures.added clean)
+returns-clause-written g c =
+    writes_then g.S.Store c.args.log.now c.entries_to_add.new.log c.add_all.new.log (HasMore (map entry_row c.deref.result.now))
+    (Imports c.args.came.items c.args.limit c.args.writer.now c.args.now)
+    (λ clean trees more. record { added = c.deref.result.now; chosen = (rw (← c.deref.ensures.value) at c.in_ok-added.ensures.added) clean; more = more })
+    _ _ _ c.in_ok-added.ensures.reads tt c.in_ok-add_all.ensures.added tt
 
-pub returns-clause-crash : goal.returns-clause-crash
-returns-clause-crash g c =
-    import_leaves c.args.limit c.args.writer.now c.args.now c.args.came.items c.deref.result.now
-    g.S.Store c.args.log.now c.entries_to_add.new.log c.add_all.new.log c.entries_to_add.ensures.steady
-    (rw (← c.deref.ensures.value) at c.in_ok-added.ensures.added) c.in_ok-added.ensures.unchanged c.entries_to_add.ensures.crash c.add_all.ensures.crash
-
-pub returns-in_err-add_all-clause-crash : goal.returns-in_err-add_all-clause-crash
-returns-in_err-add_all-clause-crash g c =
-    import_leaves c.args.limit c.args.writer.now c.args.now c.args.came.items c.deref.result.now
-    g.S.Store c.args.log.now c.entries_to_add.new.log c.add_all.new.log c.entries_to_add.ensures.steady
-    (rw (← c.deref.ensures.value) at c.in_ok-added.ensures.added) c.in_ok-added.ensures.unchanged c.entries_to_add.ensures.crash c.add_all.ensures.crash
+pub returns-in_err-add_all-clause-written : goal.returns-in_err-add_all-clause-written
+returns-in_err-add_all-clause-written g c =
+    writes_then g.S.Store c.args.log.now c.entries_to_add.new.log c.add_all.new.log (HasMore (map entry_row c.deref.result.now))
+    (Imports c.args.came.items c.args.limit c.args.writer.now c.args.now)
+    (λ clean trees more. record { added = c.deref.result.now; chosen = (rw (← c.deref.ensures.value) at c.in_ok-added.ensures.added) clean; more = more })
+    _ _ _ c.in_ok-added.ensures.reads tt c.in_err-add_all.ensures.added (rw (err_from_is_err_and c.from_residual-in_err-add_all.result c.from_residual-in_err-add_all.ensures.1).1 tt)

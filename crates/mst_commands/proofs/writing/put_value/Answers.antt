@@ -1,14 +1,18 @@
 use Rattle.std.proofs.Common.{Some}
-use Rattle.mst_commands.proofs.WriteLemmas.{by_name}
+use Rattle.std.proofs.lemmas.Result.{err_from_is_err_and}
+use Rattle.store_table.specs.Latest.{WritesOver}
+use Rattle.store_table.proofs.Calls.{writes_as}
+use Rattle.mst_commands.specs.Writes.{WritesBy}
 use Rattle.mst_commands.proofs.writing.put_value.Goals as goal
 
 pub returns-clause-written : goal.returns-clause-written
-returns-clause-written g c clean = (c.in_ok-writer.writer, c.in_ok-writer.ensures.ok, c.in_ok-put.ensures.written clean)
+returns-clause-written g c =
+    writes_as g.S.Store c.args.log.now c.put.new.log (WritesOver c.args.key.now c.in_ok-writer.writer c.args.now (Some c.args.value))
+    (WritesBy c.args.key.now c.args.writer.now c.args.now (Some c.args.value)) _ _ (λ trees write. (c.in_ok-writer.writer, c.in_ok-writer.ensures.ok, write))
+    tt c.in_ok-put.ensures.written
 
-pub returns-clause-crash : goal.returns-clause-crash
-returns-clause-crash g c =
-    by_name g.S.Store c.args.key.now c.args.writer.now c.in_ok-writer.writer c.args.now (Some c.args.value) c.args.log.now c.put.new.log c.in_ok-writer.ensures.ok c.put.ensures.crash
-
-pub returns-in_err-put-clause-crash : goal.returns-in_err-put-clause-crash
-returns-in_err-put-clause-crash g c =
-    by_name g.S.Store c.args.key.now c.args.writer.now c.in_ok-writer.writer c.args.now (Some c.args.value) c.args.log.now c.put.new.log c.in_ok-writer.ensures.ok c.put.ensures.crash
+pub returns-in_err-put-clause-written : goal.returns-in_err-put-clause-written
+returns-in_err-put-clause-written g c =
+    writes_as g.S.Store c.args.log.now c.put.new.log (WritesOver c.args.key.now c.in_ok-writer.writer c.args.now (Some c.args.value))
+    (WritesBy c.args.key.now c.args.writer.now c.args.now (Some c.args.value)) _ _ (λ trees write. (c.in_ok-writer.writer, c.in_ok-writer.ensures.ok, write))
+    (rw (err_from_is_err_and c.from_residual-in_err-put.result c.from_residual-in_err-put.ensures.1).1 tt) c.in_err-put.ensures.written
