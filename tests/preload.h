@@ -15,14 +15,14 @@ static void read_number(const char *at_name, const char *later_name) {
     later = getenv(later_name) != NULL;
 }
 
-/* Writes how many calls came to the file that the environment names. */
-static void write_count(const char *count_name) {
+/* Writes how many calls came to the file that the environment names, and how many of them were of another kind, unless that is negative. */
+static void write_counts(const char *count_name, long of_kind) {
     const char *path = getenv(count_name);
     long made = calls;
     at = 0;
     FILE *file = path ? fopen(path, "w") : NULL;
     if (file) {
-        fprintf(file, "%ld\n", made);
+        fprintf(file, of_kind < 0 ? "%ld\n" : "%ld %ld\n", made, of_kind);
         fclose(file);
     }
 }

@@ -15,4 +15,4 @@ void *realloc(void *old, size_t size) { NEXT(realloc); return refused() ? NULL :
 void *aligned_alloc(size_t align, size_t size) { NEXT(aligned_alloc); return refused() ? NULL : next(align, size); }
 int posix_memalign(void **out, size_t align, size_t size) { NEXT(posix_memalign); return refused() ? 12 : next(out, align, size); }
 
-__attribute__((destructor)) static void end(void) { write_count("REFUSE_COUNT"); }
+__attribute__((destructor)) static void end(void) { write_counts("REFUSE_COUNT", -1); }
