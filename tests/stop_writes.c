@@ -1,7 +1,7 @@
 /* Stops the program at the call on a file whose number is in STOP_AT, the first being 1, where STOP_HOW says how: 'before' and 'after' end
    the process beside the call, 'half' in the middle of a write, 'refuse' fails the call, and 'full' fails it for want of room; these two
-   with STOP_LATER fail all later ones too. It writes at the end to STOP_COUNT how many such calls came. It is preloaded by
-   tests/store_faults. */
+   with STOP_LATER fail all later ones too. It writes at the end to STOP_COUNT how many such calls came, and how many of them were syncs. It
+   is preloaded by tests/store_faults. */
 #define _GNU_SOURCE
 #include "preload.h"
 #include <errno.h>
@@ -12,6 +12,7 @@
 #include <sys/types.h>
 #include <unistd.h>
 
+static long syncs;
 static const char *how = "";
 
 __attribute__((constructor)) static void begin(void) {
@@ -53,11 +54,11 @@ static int turn(void) {
 ssize_t pwrite64(int file, const void *from, size_t size, off64_t place) { NEXT(pwrite64); WRITE(1, next(file, from, size, place)) }
 ssize_t pwrite(int file, const void *from, size_t size, off_t place) { NEXT(pwrite); WRITE(1, next(file, from, size, place)) }
 ssize_t write(int file, const void *from, size_t size) { NEXT(write); WRITE(is_file(file), next(file, from, size)) }
-int fsync(int file) { NEXT(fsync); int t = turn(); if (t == 1) return REFUSED; AS_EVER(next(file)) }
-int fdatasync(int file) { NEXT(fdatasync); int t = turn(); if (t == 1) return REFUSED; AS_EVER(next(file)) }
+int fsync(int file) { NEXT(fsync); syncs++; int t = turn(); if (t == 1) return REFUSED; AS_EVER(next(file)) }
+int fdatasync(int file) { NEXT(fdatasync); syncs++; int t = turn(); if (t == 1) return REFUSED; AS_EVER(next(file)) }
 int ftruncate(int file, off_t size) { NEXT(ftruncate); int t = turn(); if (t == 1) return REFUSED; AS_EVER(next(file, size)) }
 int ftruncate64(int file, off64_t size) { NEXT(ftruncate64); int t = turn(); if (t == 1) return REFUSED; AS_EVER(next(file, size)) }
 int unlink(const char *path) { NEXT(unlink); int t = turn(); if (t == 1) return REFUSED; AS_EVER(next(path)) }
 int unlinkat(int folder, const char *path, int flags) { NEXT(unlinkat); int t = turn(); if (t == 1) return REFUSED; AS_EVER(next(folder, path, flags)) }
 
-__attribute__((destructor)) static void end(void) { write_count("STOP_COUNT"); }
+__attribute__((destructor)) static void end(void) { write_counts("STOP_COUNT", syncs); }

@@ -17,7 +17,7 @@ const LONGEST_PAGE: usize = 65_536;
 const HEADER: usize = 100;
 
 /// The bytes of a log's header, and of the header of each page in it.
-const LOG_HEADER: usize = 32;
+const LOG_HEADER: u64 = 32;
 
 const FRAME_HEADER: usize = 24;
 
@@ -141,35 +141,78 @@ fn is_store_at(alloc: Global, log: &File, at: u64, size: usize) -> io::Result<bo
     Ok(page.len() == size && first_of(&page) == First::Store)
 }
 
-/// Whether a log has a first page of a store, where the database file itself has none yet.
-fn log_has_store(alloc: Global, log: &File) -> io::Result<bool> {
-    let size = number_at(&read_from(alloc, log, 0, LOG_HEADER)?, 8);
-    if size < 512 || size > LONGEST_PAGE {
-        return Ok(false);
+/// What the first pages in a log are of, those too that a recovery doesn't take.
+#[derive(Clone, Copy, Debug, PartialEq, Eq)]
+struct Logged {
+    /// Whether one is of a store.
+    has_store: bool,
+    /// Whether one is of something else, or the log can't be read to its end.
+    has_other: bool,
+}
+
+/// What the first pages in a log are of.
+fn look_at_log(alloc: Global, log: &File) -> io::Result<Logged> {
+    let head = read_from(alloc, log, 0, LOG_WITH_PAGES as usize)?;
+    let size = number_at(&head, 8);
+    let has_pages = head.len() as u64 == LOG_WITH_PAGES;
+    let mut found = Logged {
+        has_store: false,
+        has_other: has_pages && (size < 512 || size > LONGEST_PAGE),
+    };
+    if !has_pages || found.has_other {
+        return Ok(found);
     }
-    let mut at = LOG_HEADER as u64;
+    let mut at = LOG_HEADER;
     for _ in 0..MOST_FRAMES {
         let frame = read_from(alloc, log, at, FRAME_HEADER)?;
         if frame.len() < FRAME_HEADER {
-            break;
+            return Ok(found);
         }
         let page = at.saturating_add(FRAME_HEADER as u64);
-        if number_at(&frame, 0) == 1 && is_store_at(alloc, log, page, size)? {
-            return Ok(true);
+        if number_at(&frame, 0) == 1 {
+            let is_store = is_store_at(alloc, log, page, size)?;
+            found.has_store |= is_store;
+            found.has_other |= !is_store;
         }
         at = page.saturating_add(size as u64);
     }
-    Ok(false)
+    found.has_other = true;
+    Ok(found)
 }
 
-/// Whether there is a log beside a file, with a first page of a store.
-fn has_store_in_log(rt: &HostRuntime, path: &str) -> Result<bool, FileFault> {
-    let name = format!(in rt.alloc(); "{path}-wal")?;
+/// The name of the log beside a file, which lies where a link leads.
+pub(crate) fn log_of(rt: &HostRuntime, path: &str) -> Result<String, FileFault> {
+    let real = fs::canonicalize(rt, path).map_err(failure_of)?;
+    Ok(format!(in rt.alloc(); "{}-wal", real.as_str())?)
+}
+
+/// What the first pages are of in the log beside a file, or nothing where there is no log.
+fn log_beside(rt: &HostRuntime, path: &str) -> Result<Option<Logged>, FileFault> {
+    let name = log_of(rt, path)?;
     if !is_plain(rt, name.as_str())? {
-        return Ok(false);
+        return Ok(None);
     }
     let log = fs::open(rt, name.as_str()).map_err(failure_of)?;
-    Ok(log_has_store(rt.alloc(), &log).map_err(failure_of)?)
+    Ok(Some(look_at_log(rt.alloc(), &log).map_err(failure_of)?))
+}
+
+/// The first bytes of a file, which have its first page.
+fn first_page(rt: &HostRuntime, path: &str) -> Result<Vec<u8>, FileFault> {
+    let file = fs::open(rt, path).map_err(failure_of)?;
+    read_up_to(rt.alloc(), &file, LONGEST_PAGE).map_err(failure_of)
+}
+
+/// Whether the first page of a file is one of a store, and so is each in the log beside it: whatever a recovery takes, the tables are then those of
+/// a store.
+pub(crate) fn has_tables(rt: &HostRuntime, path: &str) -> Result<bool, FileFault> {
+    let page = first_page(rt, path)?;
+    if first_of(&page) != First::Store {
+        return Ok(false);
+    }
+    match log_beside(rt, path)? {
+        Some(found) => Ok(!found.has_other),
+        None => Ok(false),
+    }
 }
 
 /// What a failure of the system at a path means.
@@ -207,13 +250,18 @@ pub(crate) fn expect_store(rt: &HostRuntime, path: &str) -> Result<(), FileFault
     if !is_plain(rt, path)? {
         return Ok(());
     }
-    let file = fs::open(rt, path).map_err(failure_of)?;
-    let page = read_up_to(rt.alloc(), &file, LONGEST_PAGE).map_err(failure_of)?;
+    let page = first_page(rt, path)?;
     let first = first_of(&page);
     if first == First::Store {
         return expect_mode(&page);
     }
-    if has_store_in_log(rt, path)? {
+    if let Some(
+        Logged {
+            has_store: true,
+            ..
+        },
+    ) = log_beside(rt, path)?
+    {
         return Ok(());
     }
     Err(FileFault::Store(match first {

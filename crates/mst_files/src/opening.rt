@@ -3,7 +3,7 @@ ghost use Rattle.std.specs.Prelude.{IfOk, IsTrue};
 
 use crate::closing::FileTrees;
 use crate::fault::FileFault;
-use crate::look::{LOG_WITH_PAGES, expect_store};
+use crate::look::{expect_store, has_tables};
 use mst_commands::Fault;
 use sqlite_disk::{Disk, Files};
 use sqlite_std_file::{File, OpenError, Unknown};
@@ -94,21 +94,12 @@ pub fn expect_file(rt: &HostRuntime, path: &str) -> Result<(), FileFault> {
     }
 }
 
-/// Whether the log beside a file has no page, so that the first page of the file has said which tables there are.
-fn has_no_log(rt: &HostRuntime, path: &str) -> Result<bool, FileFault> {
-    let log = format!(in rt.alloc(); "{path}-wal")?;
-    match fs::metadata(rt, log.as_str()) {
-        Ok(found) => Ok(found.len() < LOG_WITH_PAGES),
-        Err(_) => Ok(false),
-    }
-}
-
 /// Opens a file that is there. Where another process has it, it is tried again for this many seconds.
 pub fn open_file(rt: &HostRuntime, path: &str, seconds: u64) -> Result<Log<FileTrees>, FileFault> {
     expect_file(rt, path)?;
     expect_store(rt, path)?;
     let files = wait_for(rt, path, seconds)?;
-    let opened = if has_no_log(rt, path)? {
+    let opened = if has_tables(rt, path)? {
         store_file::open_trusted(rt.alloc(), files)
     } else {
         store_file::open(rt.alloc(), files)
