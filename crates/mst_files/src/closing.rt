@@ -3,6 +3,7 @@ use crate::fault::FileFault;
 use sqlite_std_file::File;
 use sqlite_store::FileStore;
 use sqlite_trees::error::StoreError;
+use std::fs;
 use store_file::Unsure;
 use store_table::log::Log;
 
@@ -17,6 +18,9 @@ pub trait Closing: Sized + Drop {
     /// Closes the file. Where there is no room or no memory to copy what its log holds, the log keeps that, and what was committed is read
     /// from there.
     fn close_all(self) -> Result<(), FileFault>;
+
+    /// Closes the file, and takes away the log of this name beside it once it has no pages, before another process can have the file.
+    fn close_without_log(self, rt: &HostRuntime, name: &str);
 }
 
 impl Closing for Log<FileTrees> {
@@ -29,6 +33,12 @@ impl Closing for Log<FileTrees> {
         match store_file::close(self.into_trees()) {
             Ok(()) | Err(StoreError::Full | StoreError::OutOfMemory) => Ok(()),
             Err(error) => Err(FileFault::from(error)),
+        }
+    }
+
+    fn close_without_log(self, rt: &HostRuntime, name: &str) {
+        if let Ok(_files) = store_file::close_files(self.into_trees()) {
+            let _ = fs::remove_file(rt, name);
         }
     }
 }

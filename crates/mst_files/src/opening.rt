@@ -1,16 +1,18 @@
 //! Opens the file of a store.
 ghost use Rattle.std.specs.Prelude.{IfOk, IsTrue};
 
-use crate::closing::FileTrees;
+use crate::closing::{Closing, FileTrees};
 use crate::fault::FileFault;
-use crate::look::{expect_store, has_tables};
+use crate::look::{expect_store, has_tables, log_of};
 use mst_commands::Fault;
 use sqlite_disk::{Disk, Files};
 use sqlite_std_file::{File, OpenError, Unknown};
+use sqlite_trees::store::Store;
 use std::fs;
 use std::thread::sleep;
 use std::time::Duration;
 use store_file::Unsure;
+use store_table::format::recognise;
 use store_table::log::Log;
 
 /// Whether there is such a file.
@@ -94,10 +96,36 @@ pub fn expect_file(rt: &HostRuntime, path: &str) -> Result<(), FileFault> {
     }
 }
 
+/// A log that is one of a store, by its note. Else it is closed, and if the file had no log before it has none again.
+fn noted<S: Store + Drop>(
+    rt: &HostRuntime,
+    log: Log<S>,
+    name: &str,
+    had_log: bool,
+) -> Result<Log<S>, FileFault>
+where
+    Log<S>: Closing,
+{
+    let mut log = log;
+    match recognise(rt.alloc(), &mut log) {
+        Ok(_note) => Ok(log),
+        Err(fault) => {
+            if had_log {
+                let _ = log.close_all();
+            } else {
+                log.close_without_log(rt, name);
+            }
+            Err(FileFault::from(fault))
+        }
+    }
+}
+
 /// Opens a file that is there. Where another process has it, it is tried again for this many seconds.
 pub fn open_file(rt: &HostRuntime, path: &str, seconds: u64) -> Result<Log<FileTrees>, FileFault> {
     expect_file(rt, path)?;
     expect_store(rt, path)?;
+    let name = log_of(rt, path)?;
+    let had_log = is_there(rt, name.as_str())?;
     let files = wait_for(rt, path, seconds)?;
     let opened = if has_tables(rt, path)? {
         store_file::open_trusted(rt.alloc(), files)
@@ -105,15 +133,26 @@ pub fn open_file(rt: &HostRuntime, path: &str, seconds: u64) -> Result<Log<FileT
         store_file::open(rt.alloc(), files)
     };
     match opened {
-        Ok(trees) => Ok(Log::over(trees)),
+        Ok(trees) => noted(rt, Log::over(trees), name.as_str(), had_log),
         Err(fault) => Err(FileFault::Store(fault)),
     }
+}
+
+/// The log of files whose pages all were read and found to be where they belong.
+fn whole_log(rt: &HostRuntime, files: Files<Unsure<File>>) -> Result<Log<FileTrees>, FileFault>
+    requires log { IsTrue (⟦<Unsure<File> as Disk>⟧.is_usable files.log) }
+    requires db { IsTrue (⟦<Unsure<File> as Disk>⟧.is_usable files.db) }
+{
+    Ok(Log::over(store_file::open_whole(rt.alloc(), files)?))
 }
 
 /// The same, once all its pages were read and found to be where they belong.
 pub fn open_whole(rt: &HostRuntime, path: &str, seconds: u64) -> Result<Log<FileTrees>, FileFault> {
     expect_file(rt, path)?;
     expect_store(rt, path)?;
+    let name = log_of(rt, path)?;
+    let had_log = is_there(rt, name.as_str())?;
     let files = wait_for(rt, path, seconds)?;
-    Ok(Log::over(store_file::open_whole(rt.alloc(), files)?))
+    let log = whole_log(rt, files)?;
+    noted(rt, log, name.as_str(), had_log)
 }

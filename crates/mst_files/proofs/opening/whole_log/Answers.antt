@@ -1,6 +1,6 @@
 use Rattle.std.proofs.Common.{refl}
 use Rattle.store_file.proofs.StoreLemmas.{never_clean}
-use Rattle.mst_files.proofs.opening.open_whole.Goals as goal
+use Rattle.mst_files.proofs.opening.whole_log.Goals as goal
 
 pub over-requires : goal.over-requires
 over-requires c = record {
