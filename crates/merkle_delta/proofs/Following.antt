@@ -5,9 +5,10 @@ use Rattle.std.proofs.lemmas.List.{append_assoc, append-nil, length-append, flat
 use Rattle.key_order.proofs.ListParts.{join_tells}
 use Rattle.merkle_digest.specs.SipHash.{siphash128, output}
 use Rattle.merkle_delta.specs.Chunks.{digest_of}
-use Rattle.merkle_delta.specs.Deltas.{IsDeltaOver, Step, step_bytes, given_by, chunks_after, left_behind, bytes_from_steps, IsStepOver, AreStepsOver}
-use Rattle.merkle_delta.specs.Steps.{IsStepTaken, BeginNoStep, AreGiven, AreNoSteps}
-use Rattle.merkle_delta.proofs.Stepping.{over-more, patched-more, left-more, step-some, step_told, steps_told}
+use Rattle.merkle_delta.specs.Deltas.{IsDeltaOver, Step, step_bytes, given_by, chunks_after, bytes_from_steps, IsStepOver, AreStepsOver}
+use Rattle.merkle_delta.specs.Steps.{IsStepTaken, AreGiven}
+use Rattle.merkle_delta.proofs.Stepping.{left_behind, over-more, patched-more, left-more, step-some, step_told, steps_told}
+use Rattle.merkle_bytes.specs.Reading.{BeginsWithNo}
 
 -- a digest has 16 bytes
 pub digest_length : (bytes : List ℕ) → length (digest_of bytes) ≡ 16
@@ -77,7 +78,8 @@ module _ (own : List (List ℕ)) (whole : List ℕ) where
       last (s ∷ ss) e gives = absurd (omega (arith, step-some s, ap length (sym none ∙ e), length-append (step_bytes s) (flat_map step_bytes ss)))
 
   -- where something is left that is no step, the whole is no steps
-  pub none_left : (chunks : List (List ℕ)) (left given : List ℕ) → AreTaken chunks left given → left ≢ [] → BeginNoStep chunks left → AreNoSteps own whole
+  pub none_left : (chunks : List (List ℕ)) (left given : List ℕ) → AreTaken chunks left given → left ≢ [] → BeginsWithNo step_bytes (IsStepOver chunks) left → (all : List Step)
+      → AreStepsOver own all → whole ≢ flat_map step_bytes all
   none_left chunks left given so some none = λ all over e. let b = so.rest all over e in first b.0 b.1 b.2
     where
       first : (others : List Step) → AreStepsOver chunks others → left ≡ flat_map step_bytes others → ⊥
@@ -101,7 +103,8 @@ module _ (own : List (List ℕ)) (whole bytes : List ℕ) where
       (told.0, (steps, over, gives, told.1))
 
   -- where no steps do, it is none
-  pub no_delta : (digest left : List ℕ) → whole ≡ digest ++ left → length digest ≡ 16 → AreNoSteps own left → ¬ IsDeltaOver own whole bytes
+  pub no_delta : (digest left : List ℕ) → whole ≡ digest ++ left → length digest ≡ 16 → ((steps : List Step) → AreStepsOver own steps → left ≢ flat_map step_bytes steps)
+      → ¬ IsDeltaOver own whole bytes
   no_delta digest left read long none over = let (same, (steps, are, gives, is)) = delta_parts digest left read long over in none steps are is
 
   -- nor is it where they give bytes with another digest

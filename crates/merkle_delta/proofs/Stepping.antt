@@ -10,8 +10,9 @@ use Rattle.merkle_bytes.specs.declared.error.ReadError.{ReadError}
 use Rattle.merkle_bytes.specs.declared.error.ReadError.TheVariants as read
 use Rattle.merkle_delta.specs.Faults.{unread_delta}
 use Rattle.merkle_delta.specs.declared.patch.PatchError.TheVariants.{Unlike}
-use Rattle.merkle_delta.specs.Steps.{BeginNoStep, IsStepTaken}
-use Rattle.merkle_delta.specs.Deltas.{Step, bytes_step, run_step, step_bytes, chunks_after, given_by, IsStepOver, left_behind, bytes_from_steps, AreStepsOver}
+use Rattle.merkle_delta.specs.Steps.{IsStepTaken}
+use Rattle.merkle_delta.specs.Deltas.{Step, step_bytes, chunks_after, given_by, IsStepOver, bytes_from_steps, AreStepsOver}
+use Rattle.merkle_bytes.specs.Reading.{BeginsWithNo}
 
 -- bytes are no delta only where they are malformed
 pub malformed_of : (error : ReadError) → unread_delta error ≡ Unlike → IsMalformed error
@@ -26,6 +27,11 @@ concat-more (y ∷ ys) x = ap (λ t. y ++ t) (concat-more ys x) ∙ sym (append_
 pub concat-append : (xs ys : List (List ℕ)) → concat (xs ++ ys) ≡ concat xs ++ concat ys
 concat-append [] ys = refl
 concat-append (x ∷ xs) ys = ap (λ t. x ++ t) (concat-append xs ys) ∙ sym (append_assoc x (concat xs) (concat ys))
+
+-- the chunks that are left after steps
+abbrev pub left_behind : List (List ℕ) → List Step → List (List ℕ)
+left_behind chunks [] = chunks
+left_behind chunks (step ∷ steps) = left_behind (chunks_after chunks step) steps
 
 -- one step more after others
 pub over-more : (chunks : List (List ℕ)) (steps : List Step) (step : Step) → AreStepsOver chunks steps → IsStepOver (left_behind chunks steps) step → AreStepsOver chunks (steps ++ step ∷ [])
@@ -95,12 +101,19 @@ patched-long chunks [] = omega arith
 patched-long chunks (inl run ∷ steps) =
     let taken = concat (take run.1 (drop run.0 chunks)) in
     let left = drop (run.0 + run.1) chunks in
-    omega (arith, length-append taken (bytes_from_steps left steps), length-append (run_step run.0 run.1) (flat_map step_bytes steps), run_long chunks run.0 run.1, patched-long left steps)
+    omega (
+      arith,
+      length-append taken (bytes_from_steps left steps),
+      length-append (count_bytes run.1 ++ count_bytes run.0)
+          (flat_map step_bytes steps),
+      run_long chunks run.0 run.1,
+      patched-long left steps,
+    )
 patched-long chunks (inr bytes ∷ steps) =
     omega (
       arith,
       length-append bytes (bytes_from_steps chunks steps),
-      length-append (bytes_step bytes) (flat_map step_bytes steps),
+      length-append (count_bytes 0 ++ string_encoding bytes) (flat_map step_bytes steps),
       length-append (count_bytes 0) (string_encoding bytes),
       length-append (count_bytes (length bytes)) bytes,
       patched-long chunks steps,
@@ -108,13 +121,13 @@ patched-long chunks (inr bytes ∷ steps) =
 
 module _ (chunks : List (List ℕ)) where
   -- where no count stands, no step does
-  pub no_count : (left : List ℕ) → length chunks < 2 ^ 64 → ((count : ℕ) (rest : List ℕ) → count < 2 ^ 64 → left ≢ count_bytes count ++ rest) → BeginNoStep chunks left
+  pub no_count : (left : List ℕ) → length chunks < 2 ^ 64 → ((count : ℕ) (rest : List ℕ) → count < 2 ^ 64 → left ≢ count_bytes count ++ rest) → BeginsWithNo step_bytes (IsStepOver chunks) left
   no_count left fits none (inl run) rest is e =
       none run.1 (count_bytes run.0 ++ rest) (omega (arith, fits, is.1)) (e ∙ append_assoc (count_bytes run.1) (count_bytes run.0) rest)
   no_count left fits none (inr bytes) rest is e = none 0 (string_encoding bytes ++ rest) (omega arith) (e ∙ append_assoc (count_bytes 0) (string_encoding bytes) rest)
 
   -- nor where no byte string stands after a count 0
-  pub no_bytes : (left behind : List ℕ) → left ≡ count_bytes 0 ++ behind → ((bytes rest : List ℕ) → behind ≢ string_encoding bytes ++ rest) → BeginNoStep chunks left
+  pub no_bytes : (left behind : List ℕ) → left ≡ count_bytes 0 ++ behind → ((bytes rest : List ℕ) → behind ≢ string_encoding bytes ++ rest) → BeginsWithNo step_bytes (IsStepOver chunks) left
   no_bytes left behind was none (inl run) rest is e =
       let told = count_told 0 run.1 behind (count_bytes run.0 ++ rest) (sym was ∙ e ∙ append_assoc (count_bytes run.1) (count_bytes run.0) rest) in absurd (omega (arith, told.0, is.0))
   no_bytes left behind was none (inr bytes) rest is e =
@@ -122,7 +135,7 @@ module _ (chunks : List (List ℕ)) where
 
   -- nor where none stands after another count
   pub no_passed : (left behind : List ℕ) (taken : ℕ) → left ≡ count_bytes taken ++ behind → 1 ≤ taken → length chunks < 2 ^ 64
-      → ((count : ℕ) (rest : List ℕ) → count < 2 ^ 64 → behind ≢ count_bytes count ++ rest) → BeginNoStep chunks left
+      → ((count : ℕ) (rest : List ℕ) → count < 2 ^ 64 → behind ≢ count_bytes count ++ rest) → BeginsWithNo step_bytes (IsStepOver chunks) left
   no_passed left behind taken was some fits none (inl run) rest is e =
       let told = count_told taken run.1 behind (count_bytes run.0 ++ rest) (sym was ∙ e ∙ append_assoc (count_bytes run.1) (count_bytes run.0) rest) in
       none run.0 rest (omega (arith, fits, is.1)) told.1
@@ -131,7 +144,7 @@ module _ (chunks : List (List ℕ)) where
 
   -- nor where more chunks are passed by and taken than there are
   pub no_run : (left behind end : List ℕ) (taken passed : ℕ) → left ≡ count_bytes taken ++ behind → behind ≡ count_bytes passed ++ end → 1 ≤ taken → length chunks < passed + taken
-      → BeginNoStep chunks left
+      → BeginsWithNo step_bytes (IsStepOver chunks) left
   no_run left behind end taken passed was then some many (inl run) rest is e =
       let told = count_told taken run.1 behind (count_bytes run.0 ++ rest) (sym was ∙ e ∙ append_assoc (count_bytes run.1) (count_bytes run.0) rest) in
       let more = count_told passed run.0 end rest (sym then ∙ told.1) in absurd (omega (arith, told.0, more.0, many, is.1))

@@ -3,9 +3,9 @@ use Rattle.std.proofs.Common.{◌≡◌, ℕ, zero, suc, ◌+◌, ◌-◌, ◌<�
 use Rattle.std.specs.List.{AllByRecursion, concat, flat_map}
 use Rattle.std.proofs.lemmas.List.{drop-drop, drop-map, get_or-drop, length-drop, length-map, map-append, take_more, take_all, take-map, take-take, drop-take, take-append-drop, flat_map_more}
 use Rattle.merkle_delta.specs.Chunks.{checksum}
-use Rattle.merkle_delta.specs.Deltas.{Step, step_bytes, left_behind, bytes_from_steps, AreStepsOver, AreToldApart}
-use Rattle.merkle_delta.specs.Steps.{HasChecksum, HaveChecksums, AddsSteps}
-use Rattle.merkle_delta.proofs.Stepping.{concat-more, concat-append, over-more, patched-more, left-more}
+use Rattle.merkle_delta.specs.Deltas.{Step, step_bytes, bytes_from_steps, AreStepsOver, AreToldApart}
+use Rattle.merkle_delta.specs.Steps.{HaveChecksums, AddsSteps}
+use Rattle.merkle_delta.proofs.Stepping.{left_behind, concat-more, concat-append, over-more, patched-more, left-more}
 
 module _ {X : Type 0} (P : X → Type 0) where
   each-drop : (n : ℕ) (xs : List X) → AllByRecursion P xs → AllByRecursion P (drop n xs)
@@ -45,7 +45,9 @@ module _ (checksums : List ℕ) (chunks : List (List ℕ)) where
   pub none_same : (from done : ℕ) → from ≤ length checksums → done ≤ length chunks → HaveChecksums checksums chunks from done 0
   none_same from done low few = (omega (arith, low), omega (arith, few), refl)
 
-  pub one_more_same : (from done len : ℕ) → HaveChecksums checksums chunks from done len → HasChecksum checksums chunks (from + len) (done + len) → HaveChecksums checksums chunks from done (len + 1)
+  pub one_more_same : (from done len : ℕ) → HaveChecksums checksums chunks from done len
+      → (from + len < length checksums) × (done + len < length chunks) × (get_or checksums (from + len) 0 ≡ checksum (get_or chunks (done + len) []))
+      → HaveChecksums checksums chunks from done (len + 1)
   one_more_same from done len same next = (
     omega (arith, next.0),
     omega (arith, next.1),

@@ -4,25 +4,17 @@ use Rattle.std.proofs.Common.{inl, inr}
 use Rattle.std.specs.Global.{Vec}
 use Rattle.std.specs.List.{AllByRecursion, concat, flat_map}
 use Rattle.merkle_bytes.specs.Counts.{count_bytes}
-use Rattle.merkle_bytes.specs.Encodings.{AddsBytes, string_encoding}
+use Rattle.merkle_bytes.specs.Encodings.{string_encoding}
 use Rattle.merkle_delta.specs.Chunks.{checksum, chunks_of, digest_of}
 
 -- a step: this many chunks are passed by, and this many taken after them; or other bytes come
 abbrev pub Step : Type 0
 Step = (ℕ × ℕ) ⊎ List ℕ
 
--- the bytes of a run: how many chunks are taken, and how many passed by
-abbrev pub run_step : ℕ → ℕ → List ℕ
-run_step passed taken = count_bytes taken ++ count_bytes passed
-
--- those of other bytes: a count 0, and they after their number
-abbrev pub bytes_step : List ℕ → List ℕ
-bytes_step bytes = count_bytes 0 ++ string_encoding bytes
-
--- the bytes of a step
+-- the bytes of a step: how many chunks are taken, and how many passed by; or a count 0, and the other bytes after their number
 abbrev pub step_bytes : Step → List ℕ
-step_bytes (inl run) = run_step run.0 run.1
-step_bytes (inr bytes) = bytes_step bytes
+step_bytes (inl run) = count_bytes run.1 ++ count_bytes run.0
+step_bytes (inr bytes) = count_bytes 0 ++ string_encoding bytes
 
 -- the chunks that are left after a step
 abbrev pub chunks_after : List (List ℕ) → Step → List (List ℕ)
@@ -40,10 +32,6 @@ IsStepOver chunks (inl run) = (1 ≤ run.1) × (run.0 + run.1 ≤ length chunks)
 IsStepOver chunks (inr bytes) = ⊤
 
 -- the same of steps one after the other
-abbrev pub left_behind : List (List ℕ) → List Step → List (List ℕ)
-left_behind chunks [] = chunks
-left_behind chunks (step ∷ steps) = left_behind (chunks_after chunks step) steps
-
 abbrev pub bytes_from_steps : List (List ℕ) → List Step → List ℕ
 bytes_from_steps chunks [] = []
 bytes_from_steps chunks (step ∷ steps) = given_by chunks step ++ bytes_from_steps (chunks_after chunks step) steps
@@ -52,17 +40,10 @@ abbrev pub AreStepsOver : List (List ℕ) → List Step → Type 0
 AreStepsOver chunks [] = ⊤
 AreStepsOver chunks (step ∷ steps) = IsStepOver chunks step × AreStepsOver (chunks_after chunks step) steps
 
--- a delta: the digest of the bytes, and steps
-abbrev pub delta_bytes : List ℕ → List Step → List ℕ
-delta_bytes bytes steps = digest_of bytes ++ flat_map step_bytes steps
-
--- over the chunks the delta is that of the bytes
+-- over the chunks the delta is that of the bytes: their digest, and steps
 abbrev pub IsDeltaOver : List (List ℕ) → List ℕ → List ℕ → Type 0
-IsDeltaOver chunks delta bytes = (steps : List Step) × AreStepsOver chunks steps × (bytes ≡ bytes_from_steps chunks steps) × (delta ≡ delta_bytes bytes steps)
-
--- over the chunks it is that of no bytes
-abbrev pub IsNoDelta : List (List ℕ) → List ℕ → Type 0
-IsNoDelta chunks delta = (bytes : List ℕ) → ¬ IsDeltaOver chunks delta bytes
+IsDeltaOver chunks delta bytes = (steps : List Step) × AreStepsOver chunks steps × (bytes ≡ bytes_from_steps chunks steps)
+    × (delta ≡ digest_of bytes ++ flat_map step_bytes steps)
 
 -- the bytes of a delta are no more than those of the chunks and its own
 abbrev pub DeltasAreBounded : Type 0
@@ -76,9 +57,5 @@ AreToldApart chunks others = AllByRecursion (λ other. AllByRecursion (λ chunk.
 -- a delta begins with the digest of the bytes, and it is that of the bytes over any chunks that have these checksums and are told apart by them from
 -- the chunks of the bytes
 abbrev pub IsDelta : List ℕ → List ℕ → List ℕ → Type 0
-IsDelta checksums bytes delta = (steps : List Step) × (delta ≡ delta_bytes bytes steps)
+IsDelta checksums bytes delta = (steps : List Step) × (delta ≡ digest_of bytes ++ flat_map step_bytes steps)
     × ((chunks : List (List ℕ)) → map checksum chunks ≡ checksums → AreToldApart chunks (chunks_of bytes) → AreStepsOver chunks steps × (bytes ≡ bytes_from_steps chunks steps))
-
--- a delta of the bytes for these checksums is added
-abbrev pub AddsDelta : List ℕ → List ℕ → Vec ℕ → Vec ℕ → Type 0
-AddsDelta checksums bytes old new = (delta : List ℕ) × AddsBytes old delta new × IsDelta checksums bytes delta

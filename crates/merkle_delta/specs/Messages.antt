@@ -6,17 +6,13 @@ use Rattle.merkle_bytes.specs.Counts.{count_bytes}
 use Rattle.merkle_bytes.specs.Encodings.{list_bytes}
 use Rattle.merkle_delta.specs.Deltas.{IsDelta, IsDeltaOver}
 
--- the message doesn't begin so
-abbrev pub LacksFront : List ℕ → List ℕ → Type 0
-LacksFront front message = (rest : List ℕ) → message ≢ front ++ rest
-
 -- a question after checksums: version 1, kind 6
 abbrev pub asking_bytes : List ℕ → List ℕ → List ℕ
 asking_bytes checksums question = 1 ∷ 6 ∷ (list_bytes count_bytes checksums ++ question)
 
 -- the bytes don't begin as a message with checksums
 abbrev pub IsPlain : List ℕ → Type 0
-IsPlain = LacksFront (1 ∷ 6 ∷ [])
+IsPlain message = (rest : List ℕ) → message ≢ 1 ∷ 6 ∷ rest
 
 -- a reply that is a delta: version 1, kind 134
 abbrev pub telling_bytes : List ℕ → List ℕ

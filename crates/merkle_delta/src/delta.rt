@@ -1,7 +1,10 @@
 //! What bytes are over the chunks of others that are known by their checksums.
-ghost use Rattle.std.specs.Prelude.{◌≡◌, ◌≤◌, ◌<◌, ◌++◌, length, IsTrue, OnOk};
-ghost use Rattle.merkle_delta.specs.Deltas.{AddsDelta, bytes_step, run_step};
-ghost use Rattle.merkle_delta.specs.Steps.{AddsSteps, HasChecksum, HaveChecksums};
+ghost use Rattle.std.specs.Prelude.{◌≡◌, ℕ, List, [], get_or, ◌≤◌, ◌<◌, ◌++◌, length, IsTrue, OnOk};
+ghost use Rattle.merkle_bytes.specs.Counts.{count_bytes};
+ghost use Rattle.merkle_bytes.specs.Encodings.{AddsBytes, string_encoding};
+ghost use Rattle.merkle_delta.specs.Chunks.{checksum};
+ghost use Rattle.merkle_delta.specs.Deltas.{IsDelta};
+ghost use Rattle.merkle_delta.specs.Steps.{AddsSteps, HaveChecksums};
 
 use crate::checksum::{checksum, digest_of};
 use crate::chunks::Chunks;
@@ -27,7 +30,7 @@ pub(crate) fn add_delta(
     bytes: Vec<u8>,
     delta: &mut Vec<u8>,
 ) -> Result<(), AllocError>
-    ensures { OnOk result (AddsDelta checksums.now bytes.items delta.old delta.new) }
+    ensures { OnOk result ((added : List ℕ) × AddsBytes delta.old added delta.new × IsDelta checksums.now bytes.items added) }
 {
     delta.extend_from_slice(&digest_of(&bytes))?;
     let table = Table::new(alloc, checksums)?;
@@ -63,7 +66,7 @@ fn add_steps(
 
 /// Adds bytes that are in no chunk.
 fn add_bytes(bytes: &[u8], delta: &mut Vec<u8>) -> Result<(), AllocError>
-    ensures { OnOk result (delta.new.items ≡ delta.old.items ++ bytes_step bytes.now) }
+    ensures { OnOk result (delta.new.items ≡ delta.old.items ++ (count_bytes 0 ++ string_encoding bytes.now)) }
 {
     encode_count(0, delta)?;
     encode_count(bytes.len() as u64, delta)?;
@@ -72,7 +75,7 @@ fn add_bytes(bytes: &[u8], delta: &mut Vec<u8>) -> Result<(), AllocError>
 
 /// Adds chunks that are taken after those that are passed by.
 fn add_run(passed: usize, taken: usize, delta: &mut Vec<u8>) -> Result<(), AllocError>
-    ensures { OnOk result (delta.new.items ≡ delta.old.items ++ run_step passed taken) }
+    ensures { OnOk result (delta.new.items ≡ delta.old.items ++ (count_bytes taken ++ count_bytes passed)) }
 {
     encode_count(taken as u64, delta)?;
     encode_count(passed as u64, delta)
@@ -123,7 +126,8 @@ fn run_len(checksums: &[u32], from: usize, chunks: &Chunks, done: usize) -> usiz
 
 /// Whether a checksum is that of a chunk, where both are there.
 fn is_same(checksums: &[u32], from: usize, chunks: &Chunks, done: usize) -> bool
-    ensures { IsTrue result → HasChecksum checksums.now chunks.now from done }
+    ensures { IsTrue result → (from < length checksums.now) × (done < length chunks.now)
+        × (get_or checksums.now from 0 ≡ checksum (get_or chunks.now done [])) }
 {
     from < checksums.len() && done < chunks.len() && checksums[from] == checksum(chunks.get(done))
 }

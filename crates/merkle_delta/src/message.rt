@@ -1,7 +1,7 @@
 //! The fronts of messages with checksums and of replies that are deltas, and what stands after them.
-ghost use Rattle.std.specs.Prelude.{◌≡◌, ◌++◌, map, IfOk, MatchOption};
+ghost use Rattle.std.specs.Prelude.{◌≡◌, ◌≢◌, ◌++◌, ℕ, List, map, IfOk, MatchOption};
 ghost use Rattle.merkle_delta.specs.Chunks.{checksum};
-ghost use Rattle.merkle_delta.specs.Messages.{LacksFront, asking_bytes};
+ghost use Rattle.merkle_delta.specs.Messages.{asking_bytes};
 
 use crate::checksum::checksum;
 use crate::chunks::Chunks;
@@ -16,7 +16,7 @@ pub(crate) const TELLS: [u8; 2] = [1, 134];
 
 /// What stands after the front of a message, where it has this one.
 pub(crate) fn behind<'a>(front: [u8; 2], message: &'a [u8]) -> Option<&'a [u8]>
-    ensures { MatchOption result (LacksFront front message.now) (λ rest. message.now ≡ front ++ rest.now) }
+    ensures { MatchOption result ((rest : List ℕ) → message.now ≢ front ++ rest) (λ rest. message.now ≡ front ++ rest.now) }
 {
     let Some((first, rest)) = message.split_first_chunk::<2>() else {
         return None;

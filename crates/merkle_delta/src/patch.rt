@@ -1,9 +1,10 @@
 //! The bytes that a delta tells over chunks.
-ghost use Rattle.std.specs.Prelude.{◌≡◌, ◌-◌, ◌≤◌, ◌++◌, drop, take, length, ◌↔◌, IsTrue, IfOk, IfErr, OnOk};
-ghost use Rattle.std.specs.List.{concat};
+ghost use Rattle.std.specs.Prelude.{◌≡◌, ◌≢◌, ℕ, List, ◌-◌, ◌≤◌, ◌++◌, drop, take, length, ◌↔◌, IsTrue, IfOk, IfErr, OnOk};
+ghost use Rattle.std.specs.List.{concat, flat_map};
+ghost use Rattle.merkle_bytes.specs.Reading.{BeginsWithNo};
 ghost use Rattle.merkle_delta.specs.Chunks.{digest_of};
-ghost use Rattle.merkle_delta.specs.Deltas.{IsDeltaOver, IsNoDelta};
-ghost use Rattle.merkle_delta.specs.Steps.{AreGiven, AreNoSteps, BeginNoStep, TakesStep};
+ghost use Rattle.merkle_delta.specs.Deltas.{AreStepsOver, IsDeltaOver, IsStepOver, Step, step_bytes};
+ghost use Rattle.merkle_delta.specs.Steps.{AreGiven, IsStepTaken};
 ghost use Rattle.merkle_delta.specs.declared.patch.PatchError.TheVariants.{Unlike};
 
 use crate::checksum::digest_of;
@@ -50,7 +51,7 @@ impl From<ReadError> for PatchError {
 /// [`PatchError`]
 pub(crate) fn patch(own: &Chunks, reader: &mut Reader<'_>) -> Result<Vec<u8>, PatchError>
     ensures patched { IfOk result (λ bytes. IsDeltaOver own.now reader.old.left.now bytes.items) }
-    ensures unlike { IfErr result (λ error. error ≡ Unlike → IsNoDelta own.now reader.old.left.now) }
+    ensures unlike { IfErr result (λ error. error ≡ Unlike → (bytes : List ℕ) → ¬ IsDeltaOver own.now reader.old.left.now bytes) }
 {
     let digest = reader.array::<16>()?;
     let bytes = follow(own, reader)?;
@@ -70,7 +71,8 @@ fn has_digest(bytes: &[u8], digest: [u8; 16]) -> bool
 /// What the steps give.
 fn follow(own: &Chunks, reader: &mut Reader<'_>) -> Result<Vec<u8>, PatchError>
     ensures given { IfOk result (λ bytes. AreGiven own.now reader.old.left.now bytes.items) }
-    ensures unlike { IfErr result (λ error. error ≡ Unlike → AreNoSteps own.now reader.old.left.now) }
+    ensures unlike { IfErr result (λ error. error ≡ Unlike → (steps : List Step) → AreStepsOver own.now steps
+        → reader.old.left.now ≢ flat_map step_bytes steps) }
 {
     let mut bytes = Vec::new(reader.alloc());
     let mut at = 0;
@@ -89,8 +91,9 @@ fn take_step(
 ) -> Result<usize, PatchError>
     requires { at ≤ length own.now }
     ensures inside { IfOk result (λ end. end ≤ length own.now) }
-    ensures taken { IfOk result (TakesStep own.now at reader.old bytes.old reader.new bytes.new) }
-    ensures unlike { IfErr result (λ error. error ≡ Unlike → BeginNoStep (drop at own.now) reader.old.left.now) }
+    ensures taken { IfOk result (λ end. IsStepTaken (drop at own.now) reader.old.left.now bytes.old.items (drop end own.now)
+        reader.new.left.now bytes.new.items) }
+    ensures unlike { IfErr result (λ error. error ≡ Unlike → BeginsWithNo step_bytes (IsStepOver (drop at own.now)) reader.old.left.now) }
 {
     let left = (own.len() - at) as u64;
     let taken = reader.count()?;

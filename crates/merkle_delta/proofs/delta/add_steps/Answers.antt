@@ -1,5 +1,6 @@
 use Rattle.std.proofs.Common.{◌<◌, ◌≤◌, ◌++◌, length, ap, ◌∙◌, arith}
-use Rattle.merkle_delta.specs.Deltas.{bytes_step}
+use Rattle.merkle_bytes.specs.Counts.{count_bytes}
+use Rattle.merkle_bytes.specs.Encodings.{string_encoding}
 use Rattle.merkle_delta.proofs.ToldChunks.{bytes_told, run_told}
 use Rattle.merkle_delta.proofs.delta.add_steps.Goals as goal
 
@@ -7,7 +8,7 @@ pub chunks-preserved-then-run-eq0 : goal.chunks-preserved-then-run-eq0
 chunks-preserved-then-run-eq0 c =
     let low : c.chunks.done < length c.args.chunks.now = omega (arith, c.chunks-test.true, c.len.ensures) in
     bytes_told c.args.checksums.now c.args.chunks.now c.args.delta.now.items c.chunks.delta.items c.add_bytes.new.delta.items c.chunks.at c.chunks.done c.chunks.invariant low
-    (c.in_ok-add_bytes.ensures ∙ ap (λ b. c.chunks.delta.items ++ bytes_step b) c.get.ensures)
+    (c.in_ok-add_bytes.ensures ∙ ap (λ b. c.chunks.delta.items ++ (count_bytes 0 ++ string_encoding b)) c.get.ensures)
 
 pub chunks-preserved : goal.chunks-preserved
 chunks-preserved c =
