@@ -24,6 +24,7 @@ use Rattle.c_replicas.specs.declared.byte_replica.ByteReplica.{ByteReplica}
 use Rattle.c_replicas.specs.declared.byte_replica.Taken.{Taken}
 use Rattle.c_replicas.specs.declared.byte_replica.Taken.TheVariants.{Asks, Joined, Cut, Failed}
 use Rattle.c_rows.specs.Ends.{IsEarly, early_status}
+use Rattle.merkle_wire.specs.ItsRows.{digests_of}
 
 -- no row, these settings, no catch-up, and no message
 abbrev pub IsFresh : List ℕ → ℕ → PageFormat → ByteReplica → Type 0
@@ -72,7 +73,7 @@ OnlyHashes old new = (new.replica.rows ≡ old.replica.rows) × (new.replica.tre
 
 -- the question asks, and the message is the reply to it
 abbrev pub IsAnswered : List ℕ → ByteReplica → ByteReplica → Type 0
-IsAnswered question old new = IsAnsweredBy byte_laws 16 key_encoding value_encoding old.replica new.replica question new.message
+IsAnswered question old new = IsAnsweredBy byte_laws 16 key_encoding value_encoding old.replica.rows new.replica.tree question new.message
 
 -- the question is for the root, with settings that are not those of the replica
 abbrev pub IsOfOthers : List ℕ → ByteReplica → Type 0
@@ -82,7 +83,7 @@ IsOfOthers question new = AsksWithOthers byte_laws 16 key_encoding new.replica.t
 pub record HasBegun (old new : ByteReplica) : Type 0 where
   pub begun : Underway (Vec ℕ) ByteValue
   pub under_way : new.session ≡ Some begun
-  pub settings : AsksForRoot (byte_laws.key_digest old.replica.tree.hasher) 16 old.replica.tree begun.asked
+  pub settings : AsksForRoot (byte_laws.key_digest old.replica.tree.hasher) 16 (digests_of old.replica.tree) begun.asked
   pub nothing_found : (begun.found ≡ nothing) × (begun.rounds ≡ 0)
   pub asks : new.message.items ≡ question_bytes key_encoding begun.asked
   pub replica : new.replica ≡ old.replica

@@ -13,10 +13,9 @@ use Rattle.merkle_tree_theory.specs.State.{IsNew, SameSettings, map_of}
 use Rattle.merkle_tree_theory.specs.Stream.{page_digest}
 use Rattle.merkle_tree_theory.specs.declared.page_format.PageFormat.{PageFormat}
 use Rattle.merkle_wire.specs.Found.{nothing}
-use Rattle.merkle_wire.specs.ItsRows.{ForItsRows}
 use Rattle.merkle_wire.specs.Next.{IsNext, IsStopped}
 use Rattle.merkle_wire.specs.Questions.{AsksForRoot, question_bytes}
-use Rattle.merkle_wire.specs.Replies.{AsksWithOthers, IsAnsweredOf, IsAnsweredWithin}
+use Rattle.merkle_wire.specs.Replies.{AsksWithOthers, IsAnsweredWithin, IsAnsweredBy}
 use Rattle.merkle_wire.specs.Underway.{Underway}
 use Rattle.merkle_wire.specs.declared.catching_up.Next.{Next}
 use Rattle.merkle_wire.specs.declared.catching_up.Next.TheVariants.{Ask, Came}
@@ -28,6 +27,7 @@ use Rattle.c_sides.specs.declared.byte_sync.ByteSync.{ByteSync}
 use Rattle.c_sides.specs.declared.byte_sync.Taken.{Taken}
 use Rattle.c_sides.specs.declared.byte_sync.Taken.TheVariants.{Asks, Kept, Lost, Failed}
 use Rattle.c_rows.specs.Ends.{IsEarly, early_status}
+use Rattle.merkle_wire.specs.ItsRows.{ForRowsOf, digests_of}
 
 -- the empty tree with these settings, no catch-up, no message and no list
 pub record IsFresh (key : List ℕ) (base : ℕ) (format : PageFormat) (new : ByteSync) : Type 0 where
@@ -92,7 +92,7 @@ OnlyHashes old new = (new.tree ≡ hashed_tree key_items old.tree) × SameTalk o
 
 -- a reply that a side with these rows and this tree makes to a question
 abbrev pub IsReplyOf : List (Vec ℕ × ByteValue) → List ℕ → ByteSync → Type 0
-IsReplyOf rows question new = IsAnsweredOf byte_laws 16 key_encoding value_encoding rows new.tree question new.message
+IsReplyOf rows question new = IsAnsweredBy byte_laws 16 key_encoding value_encoding rows new.tree question new.message
 
 -- how many rows a reply that tells none speaks of: as many as there are keys, where the root is asked for, and else of none
 abbrev pub CountsFor : Question (Vec ℕ) → ByteSync → ℕ → Type 0
@@ -136,7 +136,7 @@ IsOfOthers question new = AsksWithOthers byte_laws 16 key_encoding new.tree ques
 pub record HasBegun (old new : ByteSync) : Type 0 where
   pub begun : Underway (Vec ℕ) ByteValue
   pub under_way : new.session ≡ Some begun
-  pub settings : AsksForRoot (byte_laws.key_digest old.tree.hasher) 16 old.tree begun.asked
+  pub settings : AsksForRoot (byte_laws.key_digest old.tree.hasher) 16 (digests_of old.tree) begun.asked
   pub nothing_found : (begun.found ≡ nothing) × (begun.rounds ≡ 0)
   pub asks : new.message.items ≡ question_bytes key_encoding begun.asked
   pub tree : new.tree ≡ old.tree
@@ -146,7 +146,7 @@ pub record HasBegun (old new : ByteSync) : Type 0 where
 pub record HasTaken (reply : List ℕ) (next : Next (Vec ℕ) ByteValue) (old : ByteSync) : Type 0 where
   pub before : Underway (Vec ℕ) ByteValue
   pub under_way : old.session ≡ Some before
-  pub comes : ForItsRows byte_laws old.tree (λ local. IsNext byte_laws 16 key_encoding value_encoding local before reply next)
+  pub comes : ForRowsOf byte_laws (digests_of old.tree) (λ local. IsNext byte_laws 16 key_encoding value_encoding local before reply next)
 
 -- the catch-up took the reply and asks on by the message; the map, the settings and the list stay
 pub record AsksOn (reply : List ℕ) (old new : ByteSync) : Type 0 where
@@ -187,7 +187,7 @@ pub record IsStoppedBy (reply : List ℕ) (status : ℕ) (old : ByteSync) : Type
   pub under_way : old.session ≡ Some before
   pub error : SessionError
   pub is : status ≡ early_status error
-  pub stopped : ForItsRows byte_laws old.tree (λ local. IsStopped byte_laws 16 key_encoding value_encoding (λ _. ⊤) (λ _. ⊤) local before reply error)
+  pub stopped : ForRowsOf byte_laws (digests_of old.tree) (λ local. IsStopped byte_laws 16 key_encoding value_encoding (λ _. ⊤) (λ _. ⊤) local before reply error)
 
 -- what is done with a reply, by what comes after it
 abbrev pub IsTaken : List ℕ → Taken → ByteSync → ByteSync → Type 0

@@ -7,8 +7,8 @@ use Rattle.merkle_replica.specs.Contents.{Contents, Side, side}
 use Rattle.merkle_replica.specs.Faithful.{IsCollisionFree}
 use Rattle.merkle_replica.specs.Laws.{Laws}
 use Rattle.merkle_wire.specs.Sessions.{NoNodesCollide}
-use Rattle.merkle_wire.specs.Steady.{AreExchangesTo, IsBegun}
 use Rattle.merkle_wire.specs.Underway.{Underway}
+use Rattle.merkle_wire.specs.SessionLaws.{AreExchangesTo, IsBegun}
 
 module _ {K V H : Type 0} (laws : Laws K V H) where
   -- where no streams of pages, no values and no nodes of pages of the peer collide in two replicas, the one has the join of both afterwards

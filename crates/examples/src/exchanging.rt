@@ -2,8 +2,8 @@
 ghost use Rattle.std.specs.Prelude.{◌≡◌, IfOk};
 ghost use Rattle.examples.specs.Exchanging.{IsExchangeOf};
 ghost use Rattle.merkle_tree_theory.specs.State.{SameSettings, map_of};
-ghost use Rattle.merkle_wire.specs.ItsRows.{HasDigestsOf, side_with};
 ghost use Rattle.merkle_wire.specs.Questions.{question_bytes};
+ghost use Rattle.merkle_wire.specs.ItsRows.{digests_of, side_of, AreDigestsOf};
 
 use merkle_bytes::Decode;
 use merkle_digest::Key;
@@ -43,9 +43,9 @@ pub fn exchange_by_trees<
     message: &[u8],
 ) -> Result<Next<K, V>, ExchangeError<R::Error, T::Error>>
     requires asks { message.now ≡ question_bytes K.encoding session.asked }
-    requires digests { HasDigestsOf H.laws peer.old (R.rows rows.now) }
+    requires digests { AreDigestsOf H.laws (digests_of peer.old) (R.rows rows.now) }
     ensures exchanged { IfOk result (IsExchangeOf H.laws N K.encoding V.encoding (T.kept local.old).digests
-        (side_with peer.old (R.rows rows.now)) session) }
+        (side_of (digests_of peer.old) (R.rows rows.now)) session) }
     ensures kept { T.kept local.new ≡ T.kept local.old }
     ensures peer_map { map_of peer.new ≡ map_of peer.old }
     ensures peer_settings { SameSettings peer.old peer.new }

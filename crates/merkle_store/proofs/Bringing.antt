@@ -9,7 +9,6 @@ use Rattle.merkle_tree_theory.specs.State.{SameSettings}
 use Rattle.merkle_wire.specs.Found.{Found}
 use Rattle.merkle_wire.specs.Next.{AsksOrGoesOn, IsNext}
 use Rattle.merkle_wire.specs.Questions.{question_bytes}
-use Rattle.merkle_wire.specs.Sessions.{AreExchanges, IsPeerReply, IsExchange, SessionsBring}
 use Rattle.merkle_wire.specs.Underway.{Underway}
 use Rattle.merkle_wire.specs.declared.catching_up.Next.{Next}
 use Rattle.merkle_wire.specs.declared.catching_up.Next.TheVariants.{Ask, Came}
@@ -20,6 +19,7 @@ use Rattle.merkle_delta.specs.Messages.{IsPlain}
 use Rattle.merkle_delta.specs.declared.hearing.Heard.{Heard}
 use Rattle.merkle_delta.specs.declared.hearing.Heard.TheVariants.{Reply, Again}
 use Rattle.merkle_store.specs.Exchanges.{AreRepliesBy, Exchange, HeardLeads, IsToldReply, LeadTo, NextLeads, NoneCollides, RepliesBring, on_wire}
+use Rattle.merkle_wire.specs.SessionLaws.{SessionsBring, IsPeerReply, IsExchange, AreExchanges}
 
 -- the second byte, that of the kind
 abbrev second : List ℕ → ℕ

@@ -20,6 +20,7 @@ use Rattle.merkle_delta.specs.Hearing.{IsHeard, IsSafe, IsSentFor, Told}
 use Rattle.merkle_delta.specs.Messages.{AsksQuestion, IsToldFor}
 use Rattle.merkle_delta.specs.declared.hearing.Heard.{Heard}
 use Rattle.merkle_delta.specs.declared.hearing.Heard.TheVariants.{Reply, Again}
+use Rattle.merkle_wire.specs.ItsRows.{digests_of}
 
 -- a message of the asking side, what it told with its question, and the reply
 pub record Exchange : Type 0 where
@@ -42,7 +43,7 @@ AsksAlone (e ∷ others) = e.told ≡ None
 module _ {K V H : Type 0} (laws : Laws K V H) (n : ℕ) (encoding : K → List ℕ) (replica : Contents K V H) where
   -- a catch-up of the replica begins so, with this question: it asks for the root with the replica's settings, and has found nothing
   pub record BeginsCatchUp (session : Underway K V) (question : List ℕ) : Type 0 where
-    pub settings : AsksForRoot (laws.key_digest replica.tree.hasher) n replica.tree session.asked
+    pub settings : AsksForRoot (laws.key_digest replica.tree.hasher) n (digests_of replica.tree) session.asked
     pub asks : question ≡ question_bytes encoding session.asked
     pub nothing_found : session.found ≡ nothing
 
@@ -70,7 +71,7 @@ module _ {K V H : Type 0} (laws : Laws K V H) (n : ℕ) (encoding : K → List �
     pub question : List ℕ
     pub plain : Vec ℕ
     pub asked : AsksQuestion checksums question message
-    pub answered : IsAnsweredBy laws n encoding values old new question plain
+    pub answered : IsAnsweredBy laws n encoding values old.rows new.tree question plain
     pub told : IsToldFor checksums plain.items reply
 
   module _ (replica : Contents K V H) where

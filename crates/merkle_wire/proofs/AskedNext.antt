@@ -11,8 +11,7 @@ use Rattle.merkle_tree_theory.specs.Tree.{Tree}
 use Rattle.merkle_wire.specs.Asking.{AsksForSome, IsTakenFrom, all_whole}
 use Rattle.merkle_wire.specs.Found.{Found}
 use Rattle.merkle_wire.specs.Gaps.{owned_gap}
-use Rattle.merkle_wire.specs.Next.{AsksOrGoesOn, GoesOn, rounds_with}
-use Rattle.merkle_wire.specs.Steady.{AsksForPages, IsFilled, IsSteadyCatchUp, SteadyNext, times_asked, times_at, times_found, times_in, times_over, total}
+use Rattle.merkle_wire.specs.Next.{AsksOrGoesOn, GoesOn, rounds_with, IfAsks}
 use Rattle.merkle_wire.specs.Underway.{AsksAgain}
 use Rattle.merkle_wire.specs.declared.catching_up.Next.{Next}
 use Rattle.merkle_wire.specs.declared.catching_up.Next.TheVariants.{Ask, Came}
@@ -20,6 +19,7 @@ use Rattle.merkle_wire.specs.declared.limits.Limits.{Limits}
 use Rattle.merkle_wire.specs.declared.question.Question.{Question}
 use Rattle.merkle_wire.specs.declared.question.Question.TheVariants.{Root, Outlines, Nodes, RowsAt, RowsIn}
 use Rattle.merkle_wire.proofs.Times.{total-append, total-mapped}
+use Rattle.merkle_wire.proofs.Steady.{AsksForPages, IsFilled, IsSteadyCatchUp, times_asked, times_at, times_found, times_in, times_over, total}
 
 module _ {K V H : Type 0} (laws : Laws K V H) (peer : Side K V H) (root : Tree K (List ℕ)) (encoding : K → List ℕ) where
   -- what was found is steady after this many rounds, with a key that is asked about so often besides
@@ -74,7 +74,7 @@ module _ {K V H : Type 0} (laws : Laws K V H) (peer : Side K V H) (root : Tree K
   whole_steady : (rounds : ℕ) (f : Found K V) → AreSteady rounds none_besides f → AreSteady rounds none_besides (all_whole f)
   whole_steady rounds f s = record { below = tt; nodes = s.nodes; once = λ k. omega (arith, s.once k, total-append (times_in laws.cmp k) f.whole f.below) }
 
-  goes_on_steady : (rounds : ℕ) (f : Found K V) (next : Next K V) → AreSteady rounds none_besides f → GoesOn laws.cmp encoding rounds f next → SteadyNext laws peer root next
+  goes_on_steady : (rounds : ℕ) (f : Found K V) (next : Next K V) → AreSteady rounds none_besides f → GoesOn laws.cmp encoding rounds f next → IfAsks (IsSteadyCatchUp laws peer root) next
   goes_on_steady rounds f (Came rows) s goes = tt
   goes_on_steady rounds f (Ask session message) s (asked, is, same) =
       subst (IsSteadyCatchUp laws peer root) (λ i. record { asked = session.asked; found = session.found; rounds = sym same i; left = session.left }) (from asked.1)
@@ -94,7 +94,7 @@ module _ {K V H : Type 0} (laws : Laws K V H) (peer : Side K V H) (root : Tree K
   IsAgainFit rounds (Some question) = AsksForSome question × AsksForPages laws peer root rounds question
 
   pub next_steady : (again : Option (Question K)) (rounds : ℕ) (f : Found K V) (next : Next K V) → IsAgainFit rounds again → AreSteady rounds (times_again again) f
-      → AsksOrGoesOn laws.cmp encoding again rounds f next → SteadyNext laws peer root next
+      → AsksOrGoesOn laws.cmp encoding again rounds f next → IfAsks (IsSteadyCatchUp laws peer root) next
   next_steady None rounds f next fit s goes = goes_on_steady rounds f next s goes
   next_steady (Some question) rounds f (Came rows) fit s goes = tt
   next_steady (Some question) rounds f (Ask session message) fit s (is, same) =

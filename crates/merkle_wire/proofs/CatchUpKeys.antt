@@ -19,7 +19,6 @@ use Rattle.merkle_wire.specs.Gaps.{HasKeyBounds, owned_gap}
 use Rattle.merkle_wire.specs.Outlines.{Outline, rows_told, digests_told, page_told, IsTold, keys_among, nodes_among}
 use Rattle.merkle_wire.specs.Questions.{IsQuestion}
 use Rattle.merkle_wire.specs.Replies.{Part}
-use Rattle.merkle_wire.specs.Steady.{AreKeysOf}
 use Rattle.merkle_wire.specs.Taking.{AreBehind, AreNewGaps, AreTaken, IsBehind, IsNewGap, IsRootTaken, IsPageTaken, has_digest, new_keys}
 use Rattle.merkle_wire.specs.declared.gaps.OwnedGap.{OwnedGap}
 use Rattle.merkle_wire.specs.declared.question.Question.{Question}
@@ -27,6 +26,7 @@ use Rattle.merkle_wire.specs.declared.question.Question.TheVariants.{Root, Outli
 use Rattle.merkle_wire.proofs.RoundCovers.{each-filter}
 use Rattle.merkle_wire.proofs.TakenGaps.{IsGapOrNone, gap_or_none, nodes_or_none}
 use Rattle.merkle_wire.proofs.TellingReplies.{SameOutline}
+use Rattle.merkle_wire.proofs.Steady.{AreKeysOf}
 
 module _ {K V H : Type 0} (laws : Laws K V H) (o : IsTotalOrder laws.cmp) (is_key : K → Type 0) (alike : (j k : K) → Same laws.cmp j k → is_key j → is_key k) (local : Side K V H) where
   bound_alike : (a b : Option K) → SameBound laws.cmp a b → IsOption is_key a → IsOption is_key b

@@ -20,13 +20,12 @@ use Rattle.merkle_tree_theory.specs.Tree.{Tree, page, high, node, below}
 use Rattle.merkle_tree_theory.specs.declared.page_format.PageFormat.{PageFormat}
 use Rattle.merkle_tree_theory.proofs.InGaps.{all_within}
 use Rattle.merkle_tree_theory.proofs.PagesIn.{itself}
-use Rattle.merkle_wire.specs.Cost.{lacked_of_tree, lacked_pages, nodes_taken, pages_taken}
+use Rattle.merkle_wire.specs.Cost.{lacked_of_tree, lacked_pages, entries_taken}
 use Rattle.merkle_wire.specs.Found.{Found}
 use Rattle.merkle_wire.specs.Gaps.{owned_gap}
 use Rattle.merkle_wire.specs.Next.{IsNext}
 use Rattle.merkle_wire.specs.Outlines.{Outline, rows_told, digests_told, page_told, IsTold}
 use Rattle.merkle_wire.specs.Replies.{IsReply, items_over, whole_digest}
-use Rattle.merkle_wire.specs.Steady.{AsksForPages, IsFilled, IsSteadyCatchUp, total}
 use Rattle.merkle_wire.specs.Taking.{AreNewGaps, AreTaken, HasPageAt, IsRootTaken, IsPageTaken}
 use Rattle.merkle_wire.specs.Underway.{HasTakenReply, Underway}
 use Rattle.merkle_wire.specs.declared.catching_up.Next.{Next}
@@ -45,6 +44,7 @@ use Rattle.merkle_wire.proofs.TakenGaps.{IsGapOrNone, nodes_or_none}
 use Rattle.merkle_wire.proofs.TellingQuestions.{SameGapTold, SameQuestion}
 use Rattle.merkle_wire.proofs.TellingReplies.{SameOutline}
 use Rattle.merkle_wire.proofs.Times.{total-append}
+use Rattle.merkle_wire.proofs.Steady.{AsksForPages, IsFilled, IsSteadyCatchUp, total}
 
 total-equal : {X : Type 0} (f h : X → ℕ) → ((x : X) → f x ≡ h x) → (xs : List X) → total f xs ≡ total h xs
 total-equal f h e [] = refl
@@ -203,18 +203,18 @@ module _ {K V H : Type 0} (laws : Laws K V H) (o : IsTotalOrder laws.cmp) (eqv :
   reply_pays : (digest_of : K → List ℕ) (u : Underway K V) (question : Question K) (reply : List ℕ) (after : Found K V) (again : Option (Question K))
       → IsSteadyCatchUp laws (side peer) root u → SameQuestion laws.cmp encoding u.asked question
       → IsReply laws.cmp laws.bytes_of encoding values digest_of n peer.rows peer.tree question reply → (taken : HasTakenReply laws n encoding values local u.asked reply u.found after again)
-      → (pages_taken laws n encoding values local u.asked reply u.found after again
+      → (entries_taken laws n encoding values local outlines_kind u.asked reply u.found after again
       taken + (again_of (pages_by laws (side peer) root is_there) again + pages_found after) ≤ pages_by laws (side peer) root is_there u.asked + pages_found u.found)
-      × (nodes_taken laws n encoding values local u.asked reply u.found after again taken + (again_of (nodes_by laws (side peer) root is_there) again + nodes_found after)
-      ≤ pages_taken laws n encoding values local u.asked reply u.found after again taken + (nodes_by laws (side peer) root is_there u.asked + nodes_found u.found))
+      × (entries_taken laws n encoding values local nodes_kind u.asked reply u.found after again taken + (again_of (nodes_by laws (side peer) root is_there) again + nodes_found after)
+      ≤ entries_taken laws n encoding values local outlines_kind u.asked reply u.found after again taken + (nodes_by laws (side peer) root is_there u.asked + nodes_found u.found))
   reply_pays digest_of u question reply after again s = by u.asked question s.asked
     where
       by : (asked question : Question K) → AsksForPages laws (side peer) root u.rounds asked → SameQuestion laws.cmp encoding asked question
           → IsReply laws.cmp laws.bytes_of encoding values digest_of n peer.rows peer.tree question reply → (taken : HasTakenReply laws n encoding values local asked reply u.found after again)
-          → (pages_taken laws n encoding values local asked reply u.found after again
+          → (entries_taken laws n encoding values local outlines_kind asked reply u.found after again
           taken + (again_of (pages_by laws (side peer) root is_there) again + pages_found after) ≤ pages_by laws (side peer) root is_there asked + pages_found u.found)
-          × (nodes_taken laws n encoding values local asked reply u.found after again taken + (again_of (nodes_by laws (side peer) root is_there) again + nodes_found after)
-          ≤ pages_taken laws n encoding values local asked reply u.found after again taken + (nodes_by laws (side peer) root is_there asked + nodes_found u.found))
+          × (entries_taken laws n encoding values local nodes_kind asked reply u.found after again taken + (again_of (nodes_by laws (side peer) root is_there) again + nodes_found after)
+          ≤ entries_taken laws n encoding values local outlines_kind asked reply u.found after again taken + (nodes_by laws (side peer) root is_there asked + nodes_found u.found))
       by (Root a) (Root b) pages alike (settings, sent) (count, digest, read, taken, none) =
           let is = root_tells laws o eqv encoding values tell n local peer root sides small count (length peer.rows) digest (whole_digest (whole_item format laws.bytes_of tree)) (sym read ∙ sent) in
           let (p, q) = root_pays digest u.found after is taken in
@@ -261,9 +261,9 @@ module _ {K V H : Type 0} (laws : Laws K V H) (o : IsTotalOrder laws.cmp) (eqv :
   pub exchange_pays : (digest_of : K → List ℕ) (before : Underway K V) (question : Question K) (reply : List ℕ) (next : Next K V) → IsSteadyCatchUp laws (side peer) root before
       → SameQuestion laws.cmp encoding before.asked question
       → IsReply laws.cmp laws.bytes_of encoding values digest_of n peer.rows peer.tree question reply → (takes : IsNext laws n encoding values local before reply next)
-      → PayFor laws (side peer) root is_there (pages_taken laws n encoding values local before.asked reply before.found takes.0 takes.1 takes.2)
-      (nodes_taken laws n encoding values local before.asked reply before.found takes.0 takes.1 takes.2) before next
+      → PayFor laws (side peer) root is_there (entries_taken laws n encoding values local outlines_kind before.asked reply before.found takes.0 takes.1 takes.2)
+      (entries_taken laws n encoding values local nodes_kind before.asked reply before.found takes.0 takes.1 takes.2) before next
   exchange_pays digest_of before question reply next s alike is (found, again, taken, goes) =
       let (p, q) = reply_pays digest_of before question reply found again s alike is taken in
-      next_pays laws (side peer) root is_there encoding (pages_taken laws n encoding values local before.asked reply before.found found again taken)
-      (nodes_taken laws n encoding values local before.asked reply before.found found again taken) before again before.rounds found next p q goes
+      next_pays laws (side peer) root is_there encoding (entries_taken laws n encoding values local outlines_kind before.asked reply before.found found again taken)
+      (entries_taken laws n encoding values local nodes_kind before.asked reply before.found found again taken) before again before.rounds found next p q goes

@@ -16,19 +16,17 @@ use Rattle.merkle_replica.specs.Contents.{Contents, Side, side, tree_map}
 use Rattle.merkle_replica.specs.Laws.{Laws}
 use Rattle.merkle_tree_theory.specs.Tree.{Tree}
 use Rattle.merkle_wire.specs.Asking.{IsTakenFrom, all_whole}
-use Rattle.merkle_wire.specs.Cost.{keys_taken}
 use Rattle.merkle_wire.specs.Found.{Found}
 use Rattle.merkle_wire.specs.Gaps.{owned_gap}
 use Rattle.merkle_wire.specs.Next.{AsksOrGoesOn, IsNext}
 use Rattle.merkle_wire.specs.Outlines.{Outline, rows_told, digests_told, page_told, IsTold}
 use Rattle.merkle_wire.specs.Replies.{IsReply, items_over}
-use Rattle.merkle_wire.specs.Steady.{times_asked, times_at, times_in, times_over, total}
 use Rattle.merkle_wire.specs.Taking.{AreTaken, IsRootTaken, IsPageTaken, has_digest, is_digest, new_keys}
 use Rattle.merkle_wire.specs.Underway.{AsksAgain, HasTakenReply, Underway}
 use Rattle.merkle_wire.specs.declared.catching_up.Next.{Next}
 use Rattle.merkle_wire.specs.declared.catching_up.Next.TheVariants.{Ask, Came}
 use Rattle.merkle_wire.specs.declared.gaps.OwnedGap.{OwnedGap}
-use Rattle.merkle_wire.specs.declared.message.Kind.TheVariants.{Outlines as outlines_kind, Nodes as nodes_kind}
+use Rattle.merkle_wire.specs.declared.message.Kind.TheVariants.{Outlines as outlines_kind, Nodes as nodes_kind, RowsAt as rows_at_kind}
 use Rattle.merkle_wire.specs.declared.question.Question.{Question}
 use Rattle.merkle_wire.specs.declared.question.Question.TheVariants.{Root, Outlines, Nodes, RowsAt, RowsIn}
 use Rattle.merkle_wire.specs.declared.wanted.Wanted.{Wanted}
@@ -42,6 +40,8 @@ use Rattle.merkle_wire.proofs.TellingQuestions.{SameGapTold, SameQuestion}
 use Rattle.merkle_wire.proofs.TellingReplies.{SameOutline}
 use Rattle.merkle_wire.proofs.Times.{total-append, total-less, total-mapped, total-plus}
 use Rattle.merkle_wire.proofs.TimesTaken.{outlines_times, parts_times, root_times}
+use Rattle.merkle_wire.specs.Cost.{entries_taken}
+use Rattle.merkle_wire.proofs.Steady.{times_asked, times_at, times_in, times_over, total}
 
 -- the keys at which a reply told values
 module _ {K V H : Type 0} (laws : Laws K V H) (peer : Side K V H) (root : Tree K (List ℕ)) (k : K) where
@@ -285,7 +285,7 @@ module _ {K V H : Type 0} (laws : Laws K V H) (o : IsTotalOrder laws.cmp) (eqv :
       → AsksLacked laws local (side peer) asked → SameQuestion laws.cmp encoding asked question
       → IsReply laws.cmp laws.bytes_of encoding values digest_of n peer.rows peer.tree question reply → (taken : HasTakenReply laws n encoding values local asked reply before after again)
       → Wanting after × AsksLackedAgain laws local (side peer) again
-      × (keys_taken laws n encoding values local asked reply before after again taken ≤ total
+      × (entries_taken laws n encoding values local rows_at_kind asked reply before after again taken ≤ total
       (λ p. told_at laws n encoding values local p.0 asked reply before after again taken) (lacked laws local (side peer)))
   reply_wants digest_of (Root a) (Root b) reply before after again w l alike is (count, digest, read, taken, none) =
       (by digest taken, subst (AsksLackedAgain laws local (side peer)) (sym none) tt, omega arith)
@@ -319,11 +319,11 @@ module _ {K V H : Type 0} (laws : Laws K V H) (o : IsTotalOrder laws.cmp) (eqv :
   pub exchange_pays_for_keys : (digest_of : K → List ℕ) (before : Underway K V) (question : Question K) (reply : List ℕ) (next : Next K V) → Wanting before.found
       → AsksLacked laws local (side peer) before.asked → SameQuestion laws.cmp encoding before.asked question
       → IsReply laws.cmp laws.bytes_of encoding values digest_of n peer.rows peer.tree question reply → (takes : IsNext laws n encoding values local before reply next)
-      → PayForKeys laws local (side peer) root (keys_taken laws n encoding values local before.asked reply before.found takes.0 takes.1 takes.2) before next
+      → PayForKeys laws local (side peer) root (entries_taken laws n encoding values local rows_at_kind before.asked reply before.found takes.0 takes.1 takes.2) before next
   exchange_pays_for_keys digest_of before question reply next w l alike is (found, again, taken, goes) = by next goes
     where
       wants : Wanting found × AsksLackedAgain laws local (side peer) again
-          × (keys_taken laws n encoding values local before.asked reply before.found found again taken ≤ total
+          × (entries_taken laws n encoding values local rows_at_kind before.asked reply before.found found again taken ≤ total
           (λ p. told_at laws n encoding values local p.0 before.asked reply before.found found again taken) (lacked laws local (side peer)))
       wants = reply_wants digest_of before.asked question reply before.found found again w l alike is taken
 
@@ -333,7 +333,7 @@ module _ {K V H : Type 0} (laws : Laws K V H) (o : IsTotalOrder laws.cmp) (eqv :
       at p = reply_at p.0 digest_of before.asked question reply before.found found again alike is taken
 
       by : (next : Next K V) → AsksOrGoesOn laws.cmp encoding again before.rounds found next
-          → PayForKeys laws local (side peer) root (keys_taken laws n encoding values local before.asked reply before.found found again taken) before next
+          → PayForKeys laws local (side peer) root (entries_taken laws n encoding values local rows_at_kind before.asked reply before.found found again taken) before next
       by (Came rows) g =
           omega (
             arith,

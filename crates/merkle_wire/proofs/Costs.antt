@@ -11,7 +11,6 @@ use Rattle.merkle_wire.specs.Cost.{lacked_of_tree}
 use Rattle.merkle_wire.specs.Found.{Found}
 use Rattle.merkle_wire.specs.Gaps.{owned_gap}
 use Rattle.merkle_wire.specs.Next.{AsksOrGoesOn}
-use Rattle.merkle_wire.specs.Steady.{total}
 use Rattle.merkle_wire.specs.Underway.{AsksAgain, Underway}
 use Rattle.merkle_wire.specs.declared.catching_up.Next.{Next}
 use Rattle.merkle_wire.specs.declared.catching_up.Next.TheVariants.{Ask, Came}
@@ -19,6 +18,7 @@ use Rattle.merkle_wire.specs.declared.question.Question.{Question}
 use Rattle.merkle_wire.specs.declared.question.Question.TheVariants.{Root, Outlines, Nodes, RowsAt, RowsIn}
 use Rattle.merkle_wire.proofs.PagesLacked.{lacked_over}
 use Rattle.merkle_wire.proofs.Times.{total-mapped}
+use Rattle.merkle_wire.proofs.Steady.{total}
 
 -- what is asked again weighs as much as what is left
 abbrev pub again_of : {K : Type 0} → (Question K → ℕ) → Option (Question K) → ℕ

@@ -19,12 +19,11 @@ use Rattle.merkle_wire.specs.Asking.{IsTakenFrom, all_whole}
 use Rattle.merkle_wire.specs.Found.{Found, nothing}
 use Rattle.merkle_wire.specs.Gaps.{HasKeyBounds, owned_gap}
 use Rattle.merkle_wire.specs.Messages.{front}
-use Rattle.merkle_wire.specs.Next.{AsksOrGoesOn, IsNext}
+use Rattle.merkle_wire.specs.Next.{AsksOrGoesOn, IsNext, IfAsks}
 use Rattle.merkle_wire.specs.Outlines.{Outline, IsTold, nodes_among}
 use Rattle.merkle_wire.specs.Questions.{AsksNothing, IsQuestion, question_bytes}
-use Rattle.merkle_wire.specs.Replies.{TellsFirst, IsPartOf, IsReply, Part, items_over, outlines_bytes, parts_bytes}
-use Rattle.merkle_wire.specs.Sessions.{IsRowOfPeer}
-use Rattle.merkle_wire.specs.Steady.{AreKeysOf, CanBeTold, HasKeysNext, HasKeysOfSides, IsKeyOf, IsKeyOfSides}
+use Rattle.merkle_wire.specs.Replies.{TellsFirst, IsPartOf, IsReply, Part, items_over, outline_over_bytes, part_in_bytes}
+use Rattle.merkle_wire.specs.Sessions.{IsRowOfPeer, CanBeTold, IsKeyOf}
 use Rattle.merkle_wire.specs.Taking.{new_rows, value_row}
 use Rattle.merkle_wire.specs.Underway.{AsksAgain, HasOutlines, HasParts, HasTakenReply, Underway}
 use Rattle.merkle_wire.specs.declared.catching_up.Next.{Next}
@@ -41,6 +40,7 @@ use Rattle.merkle_wire.proofs.PageCovers.{AreSides, nodes_peers}
 use Rattle.merkle_wire.proofs.StepCovers.{parts_theirs}
 use Rattle.merkle_wire.proofs.TellingQuestions.{SameGapTold, SameQuestion}
 use Rattle.merkle_wire.proofs.TellingReplies.{outlines_tell, parts_tell}
+use Rattle.merkle_wire.proofs.Steady.{AreKeysOf, HasKeysOfSides, IsKeyOfSides}
 
 -- a key equal to one of a side's is one of it
 module _ {K V H : Type 0} (laws : Laws K V H) (o : IsTotalOrder laws.cmp) (local peer : Side K V H) where
@@ -131,10 +131,10 @@ module _ {K V H : Type 0} (laws : Laws K V H) (o : IsTotalOrder laws.cmp) (eqv :
   outlines_next : (with_pages : Bool) (kind : Kind) (ask : Vec (OwnedGap K) → Question K) (gaps gaps' left : List (OwnedGap K)) (reply : List ℕ)
       (before after : Found K V) (again : Option (Question K)) (told' : List (OwnedGap K × Outline K V))
       → ((xs : Vec (OwnedGap K)) → Gaps xs.items → IsQuestion IsKey (ask xs)) → Gaps gaps → Keys before → AllZip (SameGapTold laws.cmp encoding) gaps gaps'
-      → TellsFirst (λ g. IsTold laws.cmp peer.rows with_pages (items_over laws.cmp laws.bytes_of peer.tree g)) gaps' told' → reply ≡ front kind ++ outlines_bytes encoding values told'
+      → TellsFirst (λ g. IsTold laws.cmp peer.rows with_pages (items_over laws.cmp laws.bytes_of peer.tree g)) gaps' told' → reply ≡ front kind ++ flat_map (outline_over_bytes encoding values) told'
       → HasOutlines laws n encoding values local (front kind) gaps reply before after left → AsksAgain ask left again → IsAgain again × Keys after
   outlines_next with_pages kind ask gaps gaps' left reply before after again told' reads a keys alike answers sent (told, read, some, are, lies, taken) asks =
-      let bytes = (join_tells (front kind) (front kind) (outlines_bytes encoding values told) (outlines_bytes encoding values told') refl (sym read ∙ sent)).1 in
+      let bytes = (join_tells (front kind) (front kind) (flat_map (outline_over_bytes encoding values) told) (flat_map (outline_over_bytes encoding values) told') refl (sym read ∙ sent)).1 in
       let lists = outlines_tell laws.cmp laws.eq encoding values tell.keys tell.value (SameGapTold laws.cmp encoding) (λ g h e. e.1) n told told' left answers.left
       (same_begin laws o eqv encoding values tell n local peer root sides small
       (SameGapTold laws.cmp encoding) gaps gaps' told told' left answers.left alike are answers.begins) (fits_read laws local n told before after lies taken)
@@ -147,10 +147,10 @@ module _ {K V H : Type 0} (laws : Laws K V H) (o : IsTotalOrder laws.cmp) (eqv :
 
   parts_next : (gaps gaps' left : List (OwnedGap K)) (reply : List ℕ) (before after : Found K V) (again : Option (Question K)) (told' : List (OwnedGap K × Part K V))
       → Gaps gaps → Keys before → AllZip (SameGapTold laws.cmp encoding) gaps gaps'
-      → TellsFirst (IsPartOf laws.cmp peer.rows) gaps' told' → reply ≡ front rows_in_kind ++ parts_bytes encoding values told'
+      → TellsFirst (IsPartOf laws.cmp peer.rows) gaps' told' → reply ≡ front rows_in_kind ++ flat_map (part_in_bytes encoding values) told'
       → HasParts laws n encoding values local gaps reply before after left → AsksAgain RowsIn left again → IsAgain again × Keys after
   parts_next gaps gaps' left reply before after again told' a keys alike answers sent (told, behind, rest, read, some, are, up, are_behind, is_left, taken) asks =
-      let bytes = (join_tells (front rows_in_kind) (front rows_in_kind) (parts_bytes encoding values told) (parts_bytes encoding values told') refl (sym read ∙ sent)).1 in
+      let bytes = (join_tells (front rows_in_kind) (front rows_in_kind) (flat_map (part_in_bytes encoding values) told) (flat_map (part_in_bytes encoding values) told') refl (sym read ∙ sent)).1 in
       let lists = parts_tell laws.cmp laws.eq encoding values tell.keys tell.value (SameGapTold laws.cmp encoding) (λ g h e. e.1) told told' rest answers.left
       (same_begin laws o eqv encoding values tell n local peer root sides small
       (SameGapTold laws.cmp encoding) gaps gaps' told told' rest answers.left alike are answers.begins) (each-all (λ t. ⊤) told (λ t. tt)) (each-all (λ t. ⊤) told' (λ t. tt)) bytes in
@@ -183,7 +183,7 @@ module _ {K V H : Type 0} (laws : Laws K V H) (o : IsTotalOrder laws.cmp) (eqv :
   taken_next digest_of asked question reply before after again q keys alike is taken = absurd alike
 
   goes_on_keys : (again : Option (Question K)) (rounds : ℕ) (found : Found K V) (next : Next K V) → IsAgain again → Keys found
-      → AsksOrGoesOn laws.cmp encoding again rounds found next → HasKeysNext laws local (side peer) next
+      → AsksOrGoesOn laws.cmp encoding again rounds found next → IfAsks (HasKeysOfSides laws local (side peer)) next
   goes_on_keys again rounds found (Came rows) a keys goes = tt
   goes_on_keys None rounds found (Ask session message) a keys (asked, is, more) = by asked.1
     where
@@ -196,7 +196,8 @@ module _ {K V H : Type 0} (laws : Laws K V H) (o : IsTotalOrder laws.cmp) (eqv :
   -- what comes next has keys of the two sides alone
   pub next_keys : (digest_of : K → List ℕ) (before : Underway K V) (question : Question K) (reply : List ℕ) (next : Next K V)
       → HasKeysOfSides laws local (side peer) before → SameQuestion laws.cmp encoding before.asked question
-      → IsReply laws.cmp laws.bytes_of encoding values digest_of n peer.rows peer.tree question reply → IsNext laws n encoding values local before reply next → HasKeysNext laws local (side peer) next
+      → IsReply laws.cmp laws.bytes_of encoding values digest_of n peer.rows peer.tree question reply → IsNext laws n encoding values local before reply next
+      → IfAsks (HasKeysOfSides laws local (side peer)) next
   next_keys digest_of before question reply next keys alike is (found, again, taken, goes) =
       let (a, f) = taken_next digest_of before.asked question reply before.found found again keys.asked keys.found alike is taken in
       goes_on_keys again before.rounds found next a f goes

@@ -24,8 +24,8 @@ use Rattle.merkle_wire.specs.Found.{Found}
 use Rattle.merkle_wire.specs.Gaps.{owned_gap}
 use Rattle.merkle_wire.specs.Messages.{front}
 use Rattle.merkle_wire.specs.Outlines.{Outline, IsTold, nodes_among}
-use Rattle.merkle_wire.specs.Replies.{TellsFirst, Part, IsReply, IsPartOf, items_over, outlines_bytes, parts_bytes, values_bytes, whole_digest}
-use Rattle.merkle_wire.specs.Sessions.{IsFaithfulSession, IsAmong, AsksAbout, IsRowOfPeer, IsNewRow}
+use Rattle.merkle_wire.specs.Replies.{TellsFirst, Part, IsReply, IsPartOf, items_over, whole_digest, outline_over_bytes, part_in_bytes, value_at_bytes}
+use Rattle.merkle_wire.specs.Sessions.{IsFaithfulSession, IsRowOfPeer, IsNewRow}
 use Rattle.merkle_wire.specs.Taking.{IsRootTaken, new_rows, value_row}
 use Rattle.merkle_wire.specs.Underway.{AsksAgain, HasOutlines, HasValues, HasParts, HasTakenReply}
 use Rattle.merkle_wire.specs.declared.gaps.OwnedGap.{OwnedGap}
@@ -40,6 +40,7 @@ use Rattle.merkle_wire.proofs.PageCovers.{AreSides, IsAbout, nodes_peers}
 use Rattle.merkle_wire.proofs.StepCovers.{outlines_keep, outlines_new, outlines_cover, rows_keep, rows_among, values_theirs, values_cover, parts_theirs, parts_cover, root_covers, root_takes}
 use Rattle.merkle_wire.proofs.TellingQuestions.{SameGapTold, SameWanted, SameQuestion}
 use Rattle.merkle_wire.proofs.TellingReplies.{Fits, outlines_tell, parts_tell, values_tell}
+use Rattle.merkle_wire.proofs.Covering.{IsAmong, AsksAbout}
 
 -- bytes tell keys and values
 pub record Tell {K V H : Type 0} (laws : Laws K V H) (encoding : K → List ℕ) (values : V → List ℕ) : Type 0 where
@@ -132,10 +133,10 @@ module _ {K V H : Type 0} (laws : Laws K V H) (o : IsTotalOrder laws.cmp) (eqv :
 
   outlines_take : (with_pages : Bool) (kind : Kind) (gaps gaps' left : List (OwnedGap K)) (reply : List ℕ) (before after : Found K V)
       (told' : List (OwnedGap K × Outline K V)) → AllZip (SameGapTold laws.cmp encoding) gaps gaps'
-      → TellsFirst (λ g. IsTold laws.cmp peer.rows with_pages (items_over laws.cmp laws.bytes_of peer.tree g)) gaps' told' → reply ≡ front kind ++ outlines_bytes encoding values told'
+      → TellsFirst (λ g. IsTold laws.cmp peer.rows with_pages (items_over laws.cmp laws.bytes_of peer.tree g)) gaps' told' → reply ≡ front kind ++ flat_map (outline_over_bytes encoding values) told'
       → HasOutlines laws n encoding values local (front kind) gaps reply before after left → TakesList (About with_pages) gaps left before after
   outlines_take with_pages kind gaps gaps' left reply before after told' same answers sent (told, read, some, are, lies, taken) =
-      let bytes = (join_tells (front kind) (front kind) (outlines_bytes encoding values told) (outlines_bytes encoding values told') refl (sym read ∙ sent)).1 in
+      let bytes = (join_tells (front kind) (front kind) (flat_map (outline_over_bytes encoding values) told) (flat_map (outline_over_bytes encoding values) told') refl (sym read ∙ sent)).1 in
       let alike = outlines_tell laws.cmp laws.eq encoding values tell.keys tell.value (SameGapTold laws.cmp encoding) (λ g h s. s.1) n told told' left answers.left
       (same_begin (SameGapTold laws.cmp encoding) gaps gaps' told told' left answers.left same are answers.begins) (fits_read laws local n told before after lies taken)
       (sent_fits with_pages told' answers.each) bytes in
@@ -167,10 +168,10 @@ module _ {K V H : Type 0} (laws : Laws K V H) (o : IsTotalOrder laws.cmp) (eqv :
   At k w = Same laws.cmp k w.key
 
   values_take : (keys keys' left : List (Wanted K)) (reply : List ℕ) (before after : Found K V) (told' : List (Wanted K × Option V)) → AllZip (SameWanted laws.cmp encoding) keys keys'
-      → TellsFirst (λ w value. value ≡ get laws.cmp peer.rows w.key) keys' told' → reply ≡ front rows_at_kind ++ values_bytes values told'
+      → TellsFirst (λ w value. value ≡ get laws.cmp peer.rows w.key) keys' told' → reply ≡ front rows_at_kind ++ flat_map (value_at_bytes values) told'
       → HasValues laws n encoding values local keys reply before after left → TakesList At keys left before after
   values_take keys keys' left reply before after told' same answers sent (told, read, some, are, taken) =
-      let bytes = (join_tells (front rows_at_kind) (front rows_at_kind) (values_bytes values told) (values_bytes values told') refl (sym read ∙ sent)).1 in
+      let bytes = (join_tells (front rows_at_kind) (front rows_at_kind) (flat_map (value_at_bytes values) told) (flat_map (value_at_bytes values) told') refl (sym read ∙ sent)).1 in
       let alike = values_tell laws.cmp laws.eq encoding values tell.keys tell.value (SameWanted laws.cmp encoding) told told' left answers.left
       (same_begin (SameWanted laws.cmp encoding) keys keys' told told' left answers.left same are answers.begins) (each-all (λ t. ⊤) told (λ t. tt)) (each-all (λ t. ⊤) told' (λ t. tt)) bytes in
       let theirs = values_theirs laws o eqv local (side peer) root peer.tree.root sides (SameWanted laws.cmp encoding) (λ w x s. s) told told' alike answers.each in
@@ -191,10 +192,10 @@ module _ {K V H : Type 0} (laws : Laws K V H) (o : IsTotalOrder laws.cmp) (eqv :
   In k g = IsInGap laws.cmp k (owned_gap g)
 
   parts_take : (gaps gaps' left : List (OwnedGap K)) (reply : List ℕ) (before after : Found K V) (told' : List (OwnedGap K × Part K V)) → AllZip (SameGapTold laws.cmp encoding) gaps gaps'
-      → TellsFirst (IsPartOf laws.cmp peer.rows) gaps' told' → reply ≡ front rows_in_kind ++ parts_bytes encoding values told'
+      → TellsFirst (IsPartOf laws.cmp peer.rows) gaps' told' → reply ≡ front rows_in_kind ++ flat_map (part_in_bytes encoding values) told'
       → HasParts laws n encoding values local gaps reply before after left → TakesList In gaps left before after
   parts_take gaps gaps' left reply before after told' same answers sent (told, behind, rest, read, some, are, lies, are_behind, is_left, taken) =
-      let bytes = (join_tells (front rows_in_kind) (front rows_in_kind) (parts_bytes encoding values told) (parts_bytes encoding values told') refl (sym read ∙ sent)).1 in
+      let bytes = (join_tells (front rows_in_kind) (front rows_in_kind) (flat_map (part_in_bytes encoding values) told) (flat_map (part_in_bytes encoding values) told') refl (sym read ∙ sent)).1 in
       let alike = parts_tell laws.cmp laws.eq encoding values tell.keys tell.value (SameGapTold laws.cmp encoding) (λ g h s. s.1) told told' rest answers.left
       (same_begin (SameGapTold laws.cmp encoding) gaps gaps' told told' rest answers.left same are answers.begins) (each-all (λ t. ⊤) told (λ t. tt)) (each-all (λ t. ⊤) told' (λ t. tt)) bytes in
       let rows = flat_map (λ t. t.1.rows) told in

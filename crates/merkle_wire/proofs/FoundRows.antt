@@ -6,10 +6,10 @@ use Rattle.std.proofs.lemmas.Cmp.{tied_itself}
 use Rattle.std.specs.declared.cmp.Ordering.{Ordering}
 use Rattle.merkle_bytes.specs.Runs.{entries_bytes, row_behind, row_key, state_behind}
 use Rattle.merkle_bytes.proofs.Listed.{written_next}
-use Rattle.merkle_wire.specs.RowsAt.{AreRowsAt}
 use Rattle.merkle_wire.specs.Told.{AddsRowAt}
 use Rattle.merkle_wire.specs.declared.nodes.ToldRows.{ToldRows}
 use Rattle.merkle_wire.proofs.RowsMore.{rows_more}
+use Rattle.merkle_wire.specs.Outlines.{AreRowsAt}
 
 module _ {K V : Type 0} (cmp : K → K → Ordering) (encoding : K → List ℕ) (values : V → List ℕ) (rows : List (K × V)) (start : List ℕ) where
   -- the rows at some keys are found, and written after a key

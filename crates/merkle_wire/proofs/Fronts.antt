@@ -5,12 +5,12 @@ use Rattle.merkle_bytes.specs.declared.error.ReadError.{ReadError}
 use Rattle.merkle_bytes.specs.declared.error.ReadError.TheVariants as read
 use Rattle.merkle_wire.specs.Faults.{IsRefusedFor, unread_reply}
 use Rattle.merkle_wire.specs.Messages.{front, kind_byte}
-use Rattle.merkle_wire.specs.Unfit.{SaysNot}
 use Rattle.merkle_wire.specs.declared.message.Kind.{Kind}
 use Rattle.merkle_wire.specs.declared.message.Kind.TheVariants.{AskRoot, AskOutlines, AskNodes, AskRowsAt, AskRowsIn, Root, Outlines, Nodes, RowsAt, RowsIn, Refusal}
 use Rattle.merkle_wire.specs.declared.session_error.SessionError.{SessionError}
 use Rattle.merkle_wire.specs.declared.session_error.SessionError.TheVariants as session
 use Rattle.merkle_wire.proofs.NoSettings.{same_behind}
+use Rattle.merkle_wire.specs.Fit.{SaysSo}
 
 -- a reply that is not read is refused for a reason why it is malformed
 pub refused_unread : (reason : Type 0) (error : ReadError) → (IsMalformed error → reason) → IsRefusedFor reason (unread_reply error)
@@ -56,5 +56,5 @@ front_told a b r s e =
     (sym (kind_back a) ∙ ap kind_of both.0 ∙ kind_back b, both.1)
 
 -- a reply that says nothing after its front says nothing
-pub says_not : (kind : Kind) (S : List ℕ → Type 0) (reply left : List ℕ) → reply ≡ front kind ++ left → ((all : List ℕ) → S all → left ≢ all) → SaysNot kind S reply
-says_not kind S reply left read none all says e = none all says (front_told kind kind left all (sym read ∙ e)).1
+pub says_not : (kind : Kind) (S : List ℕ → Type 0) (reply left : List ℕ) → reply ≡ front kind ++ left → ((all : List ℕ) → S all → left ≢ all) → ¬ SaysSo kind S reply
+says_not kind S reply left read none (all, says, e) = none all says (front_told kind kind left all (sym read ∙ e)).1

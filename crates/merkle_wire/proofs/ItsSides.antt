@@ -5,7 +5,7 @@ use Rattle.merkle_replica.specs.Contents.{tree_map}
 use Rattle.merkle_replica.specs.Laws.{Laws}
 use Rattle.merkle_replica.proofs.Descents.{same_get}
 use Rattle.merkle_wire.specs.ItsRows.{AreDigestsOf, Digests, side_of}
-use Rattle.merkle_wire.specs.Steady.{IsKeyOf}
+use Rattle.merkle_wire.specs.Sessions.{IsKeyOf}
 use Rattle.merkle_wire.proofs.ExchangeKeys.{of_tree}
 
 module _ {K V H : Type 0} (laws : Laws K V H) where

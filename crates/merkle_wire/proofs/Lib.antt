@@ -1,3 +1,5 @@
+pub mod Covering
+pub mod Steady
 pub mod RowsMore
 pub mod FoundRows
 pub mod ToldAlone
@@ -64,3 +66,4 @@ pub mod CostExchanges
 pub mod CostKeys
 pub mod SteadyExchanges
 pub mod SteadySessions
+pub mod Since

@@ -16,7 +16,7 @@ use Rattle.merkle_replica.specs.Laws.{Laws}
 use Rattle.merkle_replica.proofs.Rounds.{any-append}
 use Rattle.merkle_replica.proofs.SideLaws.{same_side}
 use Rattle.merkle_tree_theory.specs.Canonical.{IsCanonicalRoot, IsTreeOf, SamePages}
-use Rattle.merkle_tree_theory.specs.State.{SameSettings, map_of}
+use Rattle.merkle_tree_theory.specs.State.{SameSettings}
 use Rattle.merkle_tree_theory.specs.Gap.{IsInGap}
 use Rattle.merkle_tree_theory.specs.Tree.{Tree}
 use Rattle.merkle_wire.specs.Asking.{AsksNothingMore, IsTakenFrom, all_whole}
@@ -25,7 +25,7 @@ use Rattle.merkle_wire.specs.Gaps.{owned_gap}
 use Rattle.merkle_wire.specs.Next.{GoesOn, AsksOrGoesOn, IsNext}
 use Rattle.merkle_wire.specs.Questions.{question_bytes}
 use Rattle.merkle_wire.specs.Replies.{IsReply}
-use Rattle.merkle_wire.specs.Sessions.{IsFaithfulSession, IsNodeOver, IsAmong, AsksAbout, IsNewRow, Covers, CoversNext}
+use Rattle.merkle_wire.specs.Sessions.{IsFaithfulSession, IsNewRow}
 use Rattle.merkle_wire.specs.Underway.{Underway}
 use Rattle.merkle_wire.specs.declared.catching_up.Next.{Next}
 use Rattle.merkle_wire.specs.declared.catching_up.Next.TheVariants.{Ask, Came}
@@ -35,6 +35,7 @@ use Rattle.merkle_wire.specs.declared.settings.Settings.{Settings}
 use Rattle.merkle_wire.proofs.Exchanges.{Tell, IsAgain, takes}
 use Rattle.merkle_wire.proofs.PageCovers.{AreSides}
 use Rattle.merkle_wire.proofs.TellingQuestions.{question_tells}
+use Rattle.merkle_wire.proofs.Covering.{IsNodeOver, IsAmong, AsksAbout, Covers, CoversNext}
 
 -- what some element of a list has, one has in any order
 any-permuted : {X : Type 0} (P : X → Type 0) (xs ys : List X) → IsPermutation xs ys → AnyByRecursion P xs → AnyByRecursion P ys
@@ -199,18 +200,3 @@ module _ {K V H : Type 0} (laws : Laws K V H) (encoding : K → List ℕ) where
     new = subst (λ f. AllByRecursion (IsNewRow laws local peer) f.rows) (sym found) tt;
     all = λ faith k l. inl (subst (AsksAbout laws peer root k) (sym asked) tt);
   }
-
-  -- what comes next covers what is missing, by the tree that the peer had at first, where the rows and the settings of both sides stayed since then
-  pub covers_since : (local a peer b : Contents K V H) → a.rows ≡ local.rows → SameSettings local.tree a.tree → b.rows ≡ peer.rows → SameSettings peer.tree b.tree
-      → IsCanonicalRoot (λ k. level_of (laws.key_digest peer.tree.hasher k) peer.tree.base) peer.tree.root
-      → SameMap laws.cmp (λ d e. d ≡ e) (map_of peer.tree) (tree_map laws (side peer)) → (before : Underway K V) (next : Next K V)
-      → ((root : Tree K (List ℕ)) → IsTreeOf laws.cmp (laws.key_digest b.tree.hasher) b.tree.base root (tree_map laws (side b))
-      → Covers laws (side a) (side b) root before → CoversNext laws (side a) (side b) root encoding next)
-      → Covers laws (side local) (side peer) peer.tree.root before → CoversNext laws (side local) (side peer) peer.tree.root encoding next
-  covers_since local a peer b rows settings peer_rows peer_settings canonical digested before next covers =
-      let at_local = subst (λ s. (root : Tree K (List ℕ)) → IsTreeOf laws.cmp (laws.key_digest b.tree.hasher) b.tree.base root (tree_map laws (side b))
-      → Covers laws s (side b) root before → CoversNext laws s (side b) root encoding next)
-      (same_side local a rows settings) covers in
-      subst (λ s. (root : Tree K (List ℕ)) → IsTreeOf laws.cmp (laws.key_digest s.hasher) s.base root (tree_map laws s) → Covers laws (side local) s root before
-      → CoversNext laws (side local) s root encoding next)
-      (same_side peer b peer_rows peer_settings) at_local peer.tree.root (canonical, digested)

@@ -1,5 +1,5 @@
 -- What comes after a reply that was taken.
-use Rattle.std.proofs.Common.{◌≡◌, ◌≢◌, ℕ, List, [], Option, Some, None, sym, ap, subst, ◌∙◌, inl, inr}
+use Rattle.std.proofs.Common.{◌≡◌, ◌≢◌, ℕ, List, [], Option, Some, None, sym, ap, subst, ◌∙◌, inl, inr, ◌≤◌}
 use Rattle.std.specs.declared.cmp.Ordering.{Ordering}
 use Rattle.merkle_replica.specs.Contents.{Side}
 use Rattle.merkle_replica.specs.Laws.{Laws}
@@ -7,7 +7,7 @@ use Rattle.merkle_wire.specs.Asking.{AsksForOutlines, IsAskedOf, AsksNothingMore
 use Rattle.merkle_wire.specs.Faults.{IsRefusedFor}
 use Rattle.merkle_wire.specs.Fit.{IsFit}
 use Rattle.merkle_wire.specs.Found.{Found}
-use Rattle.merkle_wire.specs.Next.{AsksFew, AsksOrGoesOn, GoesOn, HaveTwins, IsAsked, IsCame, IsEnded, IsNext, IsStopped, IsTwice, rounds_with}
+use Rattle.merkle_wire.specs.Next.{AsksOrGoesOn, GoesOn, HaveTwins, IsAsked, IsCame, IsEnded, IsNext, IsStopped, IsTwice, rounds_with, IfAsks}
 use Rattle.merkle_wire.specs.Questions.{question_bytes}
 use Rattle.merkle_wire.specs.Underway.{Underway, HasTakenReply}
 use Rattle.merkle_wire.specs.declared.catching_up.Next.{Next}
@@ -55,7 +55,7 @@ module _ {K V : Type 0} (cmp : K → K → Ordering) where
   came_goes_on encoding rounds before after rows (Ask session message) done is came = absurd came
   came_goes_on encoding rounds before after rows (Came all) done is came = (subst AsksNothingMore done.1 done.0, subst (λ rs. IsCame cmp rs (Came all)) (is ∙ ap (λ f. f.rows) done.1) came)
 
-  pub came_few : (rows : List (K × V)) (next : Next K V) → IsCame cmp rows next → AsksFew next
+  pub came_few : (rows : List (K × V)) (next : Next K V) → IsCame cmp rows next → IfAsks (λ session. session.rounds ≤ 256) next
   came_few rows (Ask session message) came = absurd came
   came_few rows (Came all) came = tt
 

@@ -3,7 +3,7 @@ use Rattle.std.proofs.Common.{◌≡◌, ◌≢◌, ℕ, ◌≤◌, Bool, true, 
 use Rattle.merkle_bytes.specs.Counts.{count_bytes, count_told}
 use Rattle.merkle_wire.specs.Messages.{front}
 use Rattle.merkle_wire.specs.Questions.{AreGaps, AsksNothing, question_bytes, gaps_bytes, keys_bytes}
-use Rattle.merkle_wire.specs.Settings.{NoSettings, settings_bytes}
+use Rattle.merkle_wire.specs.Settings.{settings_bytes, AreSettings}
 use Rattle.merkle_wire.specs.declared.gaps.OwnedGap.{OwnedGap}
 use Rattle.merkle_wire.specs.declared.message.Kind.{Kind}
 use Rattle.merkle_wire.specs.declared.message.Kind.TheVariants as message_kind
@@ -11,6 +11,7 @@ use Rattle.merkle_wire.specs.declared.question.Question.{Question}
 use Rattle.merkle_wire.specs.declared.question.Question.TheVariants.{Root, Outlines, Nodes, RowsAt, RowsIn}
 use Rattle.merkle_wire.specs.declared.settings.Settings.{Settings}
 use Rattle.merkle_wire.proofs.NoSettings.{same_behind, settings_end}
+use Rattle.merkle_bytes.specs.Reading.{BeginsWithNo}
 
 -- the second byte, that of the kind
 abbrev second : List ℕ → ℕ
@@ -37,7 +38,7 @@ module _ {K : Type 0} (encoding : K → List ℕ) (is_value : K → Type 0) wher
 
   module _ (message left : List ℕ) where
     -- no settings stand after the front of a question for the root
-    pub no_settings : message ≡ front message_kind.AskRoot ++ left → NoSettings encoding is_value left → AsksNothing encoding is_value message
+    pub no_settings : message ≡ front message_kind.AskRoot ++ left → BeginsWithNo (settings_bytes encoding) (AreSettings is_value) left → AsksNothing encoding is_value message
     no_settings is none (Root s) of e =
         let bytes = settings_bytes encoding s in
         none s [] of ((same_behind 1 1 1 1 left bytes (sym is ∙ e)).1 ∙ sym (append-nil bytes))

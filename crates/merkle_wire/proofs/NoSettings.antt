@@ -10,8 +10,9 @@ use Rattle.merkle_bytes.specs.Telling.{string_told}
 use Rattle.merkle_bytes.specs.declared.error.ReadError.{ReadError}
 use Rattle.merkle_bytes.proofs.Later.{refused_later, total_was}
 use Rattle.merkle_tree_theory.specs.declared.page_format.PageFormat.{PageFormat}
-use Rattle.merkle_wire.specs.Settings.{NoSettings, format_byte, settings_bytes}
+use Rattle.merkle_wire.specs.Settings.{format_byte, settings_bytes, AreSettings}
 use Rattle.merkle_wire.specs.declared.settings.Settings.{Settings}
+use Rattle.merkle_bytes.specs.Reading.{BeginsWithNo}
 
 -- what was refused after what was read was refused
 pub refused_behind : (total now : ℕ) (all front left : List ℕ) (error : ReadError) → all ≡ front ++ left → now ≡ total → IsRefusal now left error → IsRefusal total all error
@@ -47,10 +48,11 @@ module _ {K : Type 0} (encoding : K → List ℕ) where
       (both.0, both.1 ∙ append_assoc (count_bytes t.digest_bytes) sample r)
 
 module _ {K : Type 0} (encoding : K → List ℕ) (is_value : K → Type 0) where
-  pub no_format : (a b : ℕ) (left : List ℕ) → ((format : PageFormat) → b ≢ format_byte format) → NoSettings encoding is_value (a ∷ b ∷ left)
+  pub no_format : (a b : ℕ) (left : List ℕ) → ((format : PageFormat) → b ≢ format_byte format) → BeginsWithNo (settings_bytes encoding) (AreSettings is_value) (a ∷ b ∷ left)
   no_format a b left none s rest of e = none s.page_format (settings_behind encoding s s a b left rest e).0
 
-  pub no_number : (a b : ℕ) (left : List ℕ) → ((count : ℕ) (rest : List ℕ) → count < 2 ^ 64 → left ≢ count_bytes count ++ rest) → NoSettings encoding is_value (a ∷ b ∷ left)
+  pub no_number : (a b : ℕ) (left : List ℕ) → ((count : ℕ) (rest : List ℕ) → count < 2 ^ 64 → left ≢ count_bytes count ++ rest)
+      → BeginsWithNo (settings_bytes encoding) (AreSettings is_value) (a ∷ b ∷ left)
   no_number a b left none s rest of e = none s.digest_bytes (sample_bytes encoding s.sample ++ rest) of.0 (settings_behind encoding s s a b left rest e).1
 
   with_digest : (x : Option (K × Vec ℕ)) → IsOption (λ p. is_value p.0) x → IsOption (λ p. is_value p.0 × ⊤) x
@@ -58,7 +60,7 @@ module _ {K : Type 0} (encoding : K → List ℕ) (is_value : K → Type 0) wher
   with_digest (Some p) of = (of, tt)
 
   pub no_sample : (a b n : ℕ) (left : List ℕ) → ((sample : Option (K × Vec ℕ)) (rest : List ℕ) → IsOption (λ p. is_value p.0 × ⊤) sample → left ≢ sample_bytes encoding sample ++ rest)
-      → NoSettings encoding is_value (a ∷ b ∷ (count_bytes n ++ left))
+      → BeginsWithNo (settings_bytes encoding) (AreSettings is_value) (a ∷ b ∷ (count_bytes n ++ left))
   no_sample a b n left none s rest of e =
       none s.sample rest (with_digest s.sample of.1) (count_told n s.digest_bytes left (sample_bytes encoding s.sample ++ rest) (settings_behind encoding s s a b (count_bytes n ++ left) rest e).1).1
 

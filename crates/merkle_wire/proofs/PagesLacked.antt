@@ -23,13 +23,13 @@ use Rattle.merkle_tree_theory.proofs.PageOverGap.{filled_opens}
 use Rattle.merkle_tree_theory.proofs.PagesIn.{itself, page_in}
 use Rattle.merkle_wire.specs.Cost.{lacked_in_held, lacked_in_row, lacked_pages}
 use Rattle.merkle_wire.specs.Outlines.{keys_among, nodes_among, pages_beside}
-use Rattle.merkle_wire.specs.Steady.{total}
 use Rattle.merkle_wire.specs.Taking.{AreNewGaps, HasPageAt, IsNewGap, IsOneGap}
 use Rattle.merkle_wire.proofs.FilledGaps.{fills-alike}
 use Rattle.merkle_wire.proofs.PagesBelow.{items_in, map_inside, nodes_in}
 use Rattle.merkle_wire.proofs.PartsFilled.{page_canonical, part_before_all, part_behind_all}
 use Rattle.merkle_wire.proofs.SameNodes.{SameFound, over-same}
 use Rattle.merkle_wire.proofs.Times.{total-append}
+use Rattle.merkle_wire.proofs.Steady.{total}
 
 module _ {K : Type 0} (cmp : K → K → Ordering) (format : PageFormat) (bytes_of : K → List ℕ) (is_there : Gap K → List ℕ → Bool) where
   -- how many a tree has at and below its page over a gap

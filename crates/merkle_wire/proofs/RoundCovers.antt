@@ -18,8 +18,7 @@ use Rattle.merkle_replica.proofs.Bounds.{get_digests}
 use Rattle.merkle_tree_theory.specs.Page.{nodes_of, pair_of}
 use Rattle.merkle_tree_theory.specs.Ranges.{IsPageOf}
 use Rattle.merkle_tree_theory.specs.Tree.{Tree, Node}
-use Rattle.merkle_wire.specs.Outlines.{keys_among, nodes_digest}
-use Rattle.merkle_wire.specs.RowsAt.{AreRowsAt}
+use Rattle.merkle_wire.specs.Outlines.{keys_among, nodes_digest, AreRowsAt}
 use Rattle.merkle_wire.specs.Sessions.{DigestTheirValuesAlike, HaveFaithfulNodes, IsRowOfPeer, IsNewRow}
 use Rattle.merkle_wire.specs.Taking.{is_digest, has_digest, has_row, new_rows, new_keys, HasNodes}
 use Rattle.merkle_wire.proofs.TellingReplies.{SameRow}

@@ -8,10 +8,11 @@ use Rattle.merkle_replica.specs.Contents.{Side}
 use Rattle.merkle_replica.specs.Laws.{Laws}
 use Rattle.merkle_tree_theory.specs.Gap.{Gap, SameGap, part_behind}
 use Rattle.merkle_wire.specs.Coming.{AscendIn}
-use Rattle.merkle_wire.specs.Steady.{IsKeyOf, count_in, times_at, times_in, total}
+use Rattle.merkle_wire.specs.Sessions.{IsKeyOf}
 use Rattle.merkle_wire.specs.Taking.{AreNewGaps}
 use Rattle.merkle_wire.proofs.StepCovers.{is_key}
 use Rattle.merkle_wire.proofs.Times.{ascend_and_behind, ascend_times, in-alike, new_gaps_times, total-less, total-plus, total-swap}
+use Rattle.merkle_wire.proofs.Steady.{count_in, times_at, times_in, total}
 
 module _ {K V H : Type 0} (laws : Laws K V H) (o : IsTotalOrder laws.cmp) (local : Side K V H) (rows : List (K × V)) where
   abbrev pub In : Gap K → ℕ

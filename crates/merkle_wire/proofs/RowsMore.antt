@@ -1,10 +1,18 @@
 -- Rows at keys, one key after the other.
-use Rattle.std.proofs.Common.{◌++◌, List, [], ◌∷◌, ap, ◌∙◌, refl, inl, inr}
+use Rattle.std.proofs.Common.{◌++◌, List, [], ◌∷◌, ap, ◌∙◌, refl, inl, inr, ◌≡◌, ◌⊎◌, Some, None}
 use Rattle.std.specs.declared.cmp.Ordering.{Ordering}
-use Rattle.merkle_wire.specs.RowsAt.{AreRowsAt, HasRowAt}
+use Rattle.key_order.specs.Order.{Same}
+use Rattle.merkle_wire.specs.Outlines.{AreRowsAt}
+use Rattle.key_order.specs.Map.{get}
 
 module _ {K V : Type 0} (cmp : K → K → Ordering) (rows : List (K × V)) where
-  pub rows_more : (ks : List K) (k : K) (found found' : List (K × V)) → AreRowsAt cmp rows ks found → HasRowAt cmp rows k found found' → AreRowsAt cmp rows (ks ++ k ∷ []) found'
+  -- the row at the key is added, where there is one
+  abbrev HasRowAt : K → List (K × V) → List (K × V) → Type 0
+  HasRowAt k found found' =
+      ((get cmp rows k ≡ None) × (found' ≡ found))
+      ⊎ ((row : K × V) × Same cmp row.0 k × (get cmp rows k ≡ Some row.1) × (found' ≡ found ++ row ∷ []))
+
+  pub rows_more : (ks : List K) (k : K) (found found' : List (K × V)) → AreRowsAt cmp rows ks found → HasRowAt k found found' → AreRowsAt cmp rows (ks ++ k ∷ []) found'
   rows_more [] k found found' a (inl h) = inl (h.0, h.1 ∙ a)
   rows_more [] k found found' a (inr h) = inr (h.0, [], h.1, h.2, refl, h.3 ∙ ap (λ t. t ++ h.0 ∷ []) a)
   rows_more (j ∷ ks) k found found' (inl a) h = inl (a.0, rows_more ks k found found' a.1 h)

@@ -25,10 +25,9 @@ use Rattle.merkle_tree_theory.proofs.PageOverGap.{filled_opens}
 use Rattle.merkle_wire.specs.Coming.{AscendBetween, AscendIn}
 use Rattle.merkle_wire.specs.Fit.{IsOutlineIn, IsPartIn, Says}
 use Rattle.merkle_wire.specs.Gaps.{owned_gap}
-use Rattle.merkle_wire.specs.Outlines.{Outline, rows_told, digests_told, page_told, IsTold, keys_among, nodes_among}
+use Rattle.merkle_wire.specs.Outlines.{Outline, rows_told, digests_told, page_told, IsTold, keys_among, nodes_among, AreRowsAt}
 use Rattle.merkle_wire.specs.Replies.{TellsFirst, IsPartOf, Part}
-use Rattle.merkle_wire.specs.RowsAt.{AreRowsAt}
-use Rattle.merkle_wire.specs.Steady.{CanBeTold}
+use Rattle.merkle_wire.specs.Sessions.{CanBeTold}
 use Rattle.merkle_wire.specs.declared.gaps.OwnedGap.{OwnedGap}
 use Rattle.merkle_wire.specs.declared.wanted.Wanted.{Wanted}
 use Rattle.merkle_wire.proofs.RoundCovers.{each-filter}

@@ -1,6 +1,6 @@
 -- A session with an honest peer comes to its end: each exchange leaves less to ask for.
 use Rattle.std.specs.Prelude.{⊤}
-use Rattle.std.proofs.Common.{◌≡◌, ℕ, ◌+◌, ◌*◌, ◌≤◌, Bool, true, false, not, List, [], ◌∷◌, ◌++◌, length, map, flat_map, Option, Some, None, refl, sym, ap, subst, ◌∙◌, ◌⊎◌, inl, inr, arith}
+use Rattle.std.proofs.Common.{◌≡◌, ℕ, ◌+◌, ◌*◌, ◌≤◌, Bool, true, false, not, List, [], ◌∷◌, ◌++◌, length, map, flat_map, Option, Some, None, refl, sym, ap, subst, ◌∙◌, ◌⊎◌, inl, inr, arith, ◌<◌}
 use Rattle.std.proofs.lemmas.List.{length-append, length-map}
 use Rattle.std.specs.Global.{Vec}
 use Rattle.std.specs.List.{AllByRecursion, filter, AllZip}
@@ -20,11 +20,10 @@ use Rattle.merkle_wire.specs.Coming.{AscendIn, LiesIn}
 use Rattle.merkle_wire.specs.Found.{Found}
 use Rattle.merkle_wire.specs.Gaps.{owned_gap}
 use Rattle.merkle_wire.specs.Messages.{front}
-use Rattle.merkle_wire.specs.Next.{AsksOrGoesOn, IsNext}
+use Rattle.merkle_wire.specs.Next.{AsksOrGoesOn, IsNext, IfAsks}
 use Rattle.merkle_wire.specs.Outlines.{Outline, rows_told, digests_told, page_told, IsTold, nodes_among}
-use Rattle.merkle_wire.specs.Replies.{TellsFirst, IsPartOf, IsReply, Part, items_over, outlines_bytes, parts_bytes}
-use Rattle.merkle_wire.specs.Sessions.{IsRowOfPeer}
-use Rattle.merkle_wire.specs.Steady.{AsksForPages, IsFilled, IsKeyOf, IsSteadyCatchUp, LeavesLess, left_by, left_for, left_of, nodes_over, count_in, times_in, total}
+use Rattle.merkle_wire.specs.Replies.{TellsFirst, IsPartOf, IsReply, Part, items_over, outline_over_bytes, part_in_bytes}
+use Rattle.merkle_wire.specs.Sessions.{IsRowOfPeer, IsKeyOf}
 use Rattle.merkle_wire.specs.Taking.{AddsKeys, AreBehind, AreTaken, IsBehind, IsRootTaken, IsPageTaken, has_digest, new_keys}
 use Rattle.merkle_wire.specs.Underway.{AsksAgain, HasOutlines, HasParts, HasTakenReply, Underway}
 use Rattle.merkle_wire.specs.declared.catching_up.Next.{Next}
@@ -50,6 +49,7 @@ use Rattle.merkle_wire.proofs.TellingQuestions.{SameGapTold, SameQuestion}
 use Rattle.merkle_wire.proofs.TellingReplies.{SameOutline, outlines_tell, parts_tell}
 use Rattle.merkle_wire.proofs.Times.{total-append, total-mapped}
 use Rattle.merkle_wire.proofs.RowsCounted.{ascending_counted, behind_counted, parts_counted, rows_alike}
+use Rattle.merkle_wire.proofs.Steady.{AsksForPages, IsFilled, IsSteadyCatchUp, left_by, left_for, left_of, nodes_over, count_in, times_in, total}
 
 module _ {K V H : Type 0} (laws : Laws K V H) (o : IsTotalOrder laws.cmp) (eqv : IsEquivalence laws.eq) (encoding : K → List ℕ) (values : V → List ℕ) (tell : Tell laws encoding values) (n : ℕ)
     (local : Side K V H) (peer : Contents K V H) (root : Tree K (List ℕ)) (sides : AreSides laws local (side peer) root peer.tree.root)
@@ -215,11 +215,12 @@ module _ {K V H : Type 0} (laws : Laws K V H) (o : IsTotalOrder laws.cmp) (eqv :
   -- what was read of a reply is what was sent
   pub lists_alike : (with_pages : Bool) (kind : Kind) (gaps gaps' left : List (OwnedGap K)) (reply : List ℕ) (before after : Found K V)
       (told' : List (OwnedGap K × Outline K V)) → AllZip (SameGapTold laws.cmp encoding) gaps gaps'
-      → (answers : TellsFirst (λ g. IsTold laws.cmp peer.rows with_pages (items_over laws.cmp laws.bytes_of peer.tree g)) gaps' told') → reply ≡ front kind ++ outlines_bytes encoding values told'
+      → (answers : TellsFirst (λ g. IsTold laws.cmp peer.rows with_pages (items_over laws.cmp laws.bytes_of peer.tree g)) gaps' told')
+      → reply ≡ front kind ++ flat_map (outline_over_bytes encoding values) told'
       → (has : HasOutlines laws n encoding values local (front kind) gaps reply before after left)
       → AllZip (λ t u. SameGapTold laws.cmp encoding t.0 u.0 × SameOutline laws.cmp laws.eq t.1 u.1) has.0 told'
   lists_alike with_pages kind gaps gaps' left reply before after told' alike answers sent (told, read, some, are, lies, taken) =
-      let bytes = (join_tells (front kind) (front kind) (outlines_bytes encoding values told) (outlines_bytes encoding values told') refl (sym read ∙ sent)).1 in
+      let bytes = (join_tells (front kind) (front kind) (flat_map (outline_over_bytes encoding values) told) (flat_map (outline_over_bytes encoding values) told') refl (sym read ∙ sent)).1 in
       outlines_tell laws.cmp laws.eq encoding values tell.keys tell.value (SameGapTold laws.cmp encoding) (λ g h e. e.1) n told told' left answers.left
       (same_begin laws o eqv encoding values tell n local peer root sides small
       (SameGapTold laws.cmp encoding) gaps gaps' told told' left answers.left alike are answers.begins) (fits_read laws local n told before after lies taken)
@@ -228,7 +229,7 @@ module _ {K V H : Type 0} (laws : Laws K V H) (o : IsTotalOrder laws.cmp) (eqv :
   outlines_left : (with_pages : Bool) (kind : Kind) (rounds : ℕ) (gaps gaps' left : List (OwnedGap K)) (reply : List ℕ) (before after : Found K V)
       (told' : List (OwnedGap K × Outline K V)) → AllByRecursion (Filled rounds) gaps
       → AllZip (SameGapTold laws.cmp encoding) gaps gaps' → TellsFirst (λ g. IsTold laws.cmp peer.rows with_pages (items_over laws.cmp laws.bytes_of peer.tree g)) gaps'
-      told' → reply ≡ front kind ++ outlines_bytes encoding values told'
+      told' → reply ≡ front kind ++ flat_map (outline_over_bytes encoding values) told'
       → HasOutlines laws n encoding values local (front kind) gaps reply before after left
       → left_found after + total (λ g. left_about with_pages (owned_gap g)) left + 1 ≤ left_found before + total (λ g. left_about with_pages (owned_gap g)) gaps
   outlines_left with_pages kind rounds gaps gaps' left reply before after told' filled alike answers sent (told, read, some, are, lies, taken) =
@@ -278,10 +279,11 @@ module _ {K V H : Type 0} (laws : Laws K V H) (o : IsTotalOrder laws.cmp) (eqv :
       ))
 
   parts_left : (gaps gaps' left : List (OwnedGap K)) (reply : List ℕ) (before after : Found K V) (told' : List (OwnedGap K × Part K V)) → AllZip (SameGapTold laws.cmp encoding) gaps gaps'
-      → TellsFirst (IsPartOf laws.cmp peer.rows) gaps' told' → reply ≡ front rows_in_kind ++ parts_bytes encoding values told' → HasParts laws n encoding values local gaps reply before after left
+      → TellsFirst (IsPartOf laws.cmp peer.rows) gaps' told' → reply ≡ front rows_in_kind ++ flat_map (part_in_bytes encoding values) told'
+      → HasParts laws n encoding values local gaps reply before after left
       → left_found after + in_gaps left + 1 ≤ left_found before + in_gaps gaps
   parts_left gaps gaps' left reply before after told' alike answers sent (told, behind, rest, read, some, are, up, are_behind, is_left, taken) =
-      let bytes = (join_tells (front rows_in_kind) (front rows_in_kind) (parts_bytes encoding values told) (parts_bytes encoding values told') refl (sym read ∙ sent)).1 in
+      let bytes = (join_tells (front rows_in_kind) (front rows_in_kind) (flat_map (part_in_bytes encoding values) told) (flat_map (part_in_bytes encoding values) told') refl (sym read ∙ sent)).1 in
       let lists = parts_tell laws.cmp laws.eq encoding values tell.keys tell.value (SameGapTold laws.cmp encoding) (λ g h e. e.1) told told' rest answers.left
       (same_begin laws o eqv encoding values tell n local peer root sides small
       (SameGapTold laws.cmp encoding) gaps gaps' told told' rest answers.left alike are answers.begins) (each-all (λ t. ⊤) told (λ t. tt)) (each-all (λ t. ⊤) told' (λ t. tt)) bytes in
@@ -390,7 +392,7 @@ module _ {K V H : Type 0} (laws : Laws K V H) (o : IsTotalOrder laws.cmp) (eqv :
   pub leaves_less : (digest_of : K → List ℕ) (before : Underway K V) (question : Question K) (reply : List ℕ) (next : Next K V) → IsSteadyCatchUp laws (side peer) root before
       → SameQuestion laws.cmp encoding before.asked question
       → IsReply laws.cmp laws.bytes_of encoding values digest_of n peer.rows peer.tree question reply → IsNext laws n encoding values local before reply next
-      → LeavesLess laws (side peer) root before next
+      → IfAsks (λ after. left_for laws (side peer) root after < left_for laws (side peer) root before) next
   leaves_less digest_of before question reply (Came rows) s alike is comes = tt
   leaves_less digest_of before question reply (Ask session message) s alike is (found, again, taken, goes) =
       let t = stay laws o eqv encoding values tell n local peer root sides small digest_of before.asked question before.rounds before.left reply before.found found again s alike is taken in

@@ -13,10 +13,8 @@ use Rattle.merkle_tree_theory.specs.declared.page_format.PageFormat.{PageFormat}
 use Rattle.merkle_tree_theory.specs.declared.page_format.PageFormat.TheVariants.{V1, V2}
 use Rattle.merkle_wire.specs.Asking.{IsAskedOf, IsTakenFrom, all_whole}
 use Rattle.merkle_wire.specs.Found.{Found}
-use Rattle.merkle_wire.specs.Next.{IsNext}
+use Rattle.merkle_wire.specs.Next.{IsNext, IfAsks}
 use Rattle.merkle_wire.specs.Questions.{question_bytes}
-use Rattle.merkle_wire.specs.Replies.{TellsOthers}
-use Rattle.merkle_wire.specs.Sessions.{TellsOwn, TellsOwnNext}
 use Rattle.merkle_wire.specs.Settings.{IsDigested, format_byte, settings_bytes}
 use Rattle.merkle_wire.specs.Underway.{AsksAgain, HasTakenReply, Underway}
 use Rattle.merkle_wire.specs.declared.catching_up.Next.{Next}
@@ -25,6 +23,8 @@ use Rattle.merkle_wire.specs.declared.question.Question.{Question}
 use Rattle.merkle_wire.specs.declared.question.Question.TheVariants.{Root, Outlines, Nodes, RowsAt, RowsIn}
 use Rattle.merkle_wire.specs.declared.settings.Settings.{Settings}
 use Rattle.merkle_wire.proofs.NoSettings.{pair_bytes, sample_bytes, same_behind, settings_behind}
+use Rattle.merkle_wire.specs.Replies.{TellsSettings}
+use Rattle.merkle_wire.proofs.Covering.{TellsOwn}
 
 same_format : (a b : PageFormat) → format_byte a ≡ format_byte b → a ≡ b
 same_format V1 V1 e = refl
@@ -85,11 +85,11 @@ module _ {K : Type 0} (encoding : K → List ℕ) (eq : K → K → Bool) (told 
         sym same.1 ∙ is ∙ alike.keys p.0 ∙ respects peer.hasher p.0 q.0 same.0 ∙ ap (λ h. laws.key_digest h q.0) (sym hasher)
 
     -- a question with own settings is not one with others
-    pub own_are_not_others : (asked question : Question K) → question_bytes encoding asked ≡ question_bytes encoding question → TellsOwn laws n local asked → TellsOthers laws n tree question → ⊥
-    own_are_not_others asked (Outlines most gaps) e own others = others
-    own_are_not_others asked (Nodes most gaps) e own others = others
-    own_are_not_others asked (RowsAt keys) e own others = others
-    own_are_not_others asked (RowsIn gaps) e own others = others
+    pub own_are_not_others : (asked question : Question K) → question_bytes encoding asked ≡ question_bytes encoding question → TellsOwn laws n local asked → ¬ TellsSettings laws n tree question → ⊥
+    own_are_not_others asked (Outlines most gaps) e own others = others tt
+    own_are_not_others asked (Nodes most gaps) e own others = others tt
+    own_are_not_others asked (RowsAt keys) e own others = others tt
+    own_are_not_others asked (RowsIn gaps) e own others = others tt
     own_are_not_others (Root s) (Root t) e own others =
         let same = settings_told s t (same_behind 1 1 1 1 (settings_bytes encoding s) (settings_bytes encoding t) e).1 in
         others (sym same.base ∙ own.0 ∙ alike.base ∙ sym base, sym same.format ∙ own.1 ∙ alike.format ∙ sym format, sym same.digests ∙ own.2, digested s.sample t.sample same.sample own.3)
@@ -126,7 +126,7 @@ module _ {K V H : Type 0} (laws : Laws K V H) (n : ℕ) (encoding : K → List �
   asked_own question before after (some, inr t) = found_own question (all_whole before) after t
 
   -- what comes after a reply tells own settings
-  pub next_own : (before : Underway K V) (reply : List ℕ) (next : Next K V) → IsNext laws n encoding values local before reply next → TellsOwnNext laws n local next
+  pub next_own : (before : Underway K V) (reply : List ℕ) (next : Next K V) → IsNext laws n encoding values local before reply next → IfAsks (λ session. TellsOwn laws n local session.asked) next
   next_own before reply (Came rows) comes = tt
   next_own before reply (Ask session message) (found, None, taken, goes) = asked_own session.asked found session.found goes.0
   next_own before reply (Ask session message) (found, Some question, taken, goes) =

@@ -37,8 +37,8 @@ use Rattle.merkle_wire.specs.Gaps.{owned_gap}
 use Rattle.merkle_wire.specs.Messages.{front}
 use Rattle.merkle_wire.specs.Next.{HaveTwins, IsStopped}
 use Rattle.merkle_wire.specs.Outlines.{Outline, rows_told, digests_told, page_told, IsTold, keys_among, nodes_among, outline_bytes, pages_beside}
-use Rattle.merkle_wire.specs.Replies.{TellsFirst, IsPartOf, IsReply, items_over, outlines_bytes, part_bytes, parts_bytes, values_bytes, whole_digest}
-use Rattle.merkle_wire.specs.Steady.{AsksForPages, CanBeTold, IsFilled, IsMemoryOrLimit, IsSteadyCatchUp, times_asked, times_at, times_in, total}
+use Rattle.merkle_wire.specs.Replies.{TellsFirst, IsPartOf, IsReply, items_over, part_bytes, whole_digest, outline_over_bytes, part_in_bytes, value_at_bytes}
+use Rattle.merkle_wire.specs.Sessions.{CanBeTold, IsMemoryOrLimit}
 use Rattle.merkle_wire.specs.Taking.{AreNewGaps, AreTaken, IsRootTaken, IsPageTaken, value_row}
 use Rattle.merkle_wire.specs.Underway.{AsksAgain, HasOutlines, HasParts, HasTakenReply, HasValues, Underway}
 use Rattle.merkle_wire.specs.declared.gaps.OwnedGap.{OwnedGap}
@@ -61,6 +61,7 @@ use Rattle.merkle_wire.proofs.TellingReplies.{Fits, SameOutline, outlines_tell}
 use Rattle.merkle_wire.proofs.Times.{total-append, total-permuted}
 use Rattle.merkle_wire.proofs.TimesTaken.{outlines_times, parts_times, root_times, rows_added, times_about, values_times}
 use Rattle.merkle_wire.proofs.AskedNext.{AreSteady, IsAgainFit, again_fit, times_again}
+use Rattle.merkle_wire.proofs.Steady.{AsksForPages, IsFilled, IsSteadyCatchUp, times_asked, times_at, times_in, total}
 
 module _ {K V H : Type 0} (laws : Laws K V H) (o : IsTotalOrder laws.cmp) (eqv : IsEquivalence laws.eq) (encoding : K → List ℕ) (values : V → List ℕ) (tell : Tell laws encoding values) (n : ℕ)
     (local : Side K V H) (peer : Contents K V H) (root : Tree K (List ℕ)) (sides : AreSides laws local (side peer) root peer.tree.root)
@@ -148,10 +149,10 @@ module _ {K V H : Type 0} (laws : Laws K V H) (o : IsTotalOrder laws.cmp) (eqv :
       → (with_pages ≡ true → r ≡ rounds) → AllByRecursion (λ g. Filled 257 r (owned_gap g)) gaps
       → Steady rounds (λ k. total (λ g. times_about laws o local (side peer) root tree sides.same n k with_pages (owned_gap g)) gaps) before
       → AllZip (SameGapTold laws.cmp encoding) gaps gaps' → TellsFirst (λ g. IsTold laws.cmp peer.rows with_pages (items_over laws.cmp laws.bytes_of peer.tree g)) gaps'
-      told' → reply ≡ front kind ++ outlines_bytes encoding values told'
+      told' → reply ≡ front kind ++ flat_map (outline_over_bytes encoding values) told'
       → HasOutlines laws n encoding values local (front kind) gaps reply before after left → AsksAgain ask left again → StaySteady rounds again after
   outlines_stay with_pages kind ask r rounds gaps gaps' left reply before after again told' some pages count same_rounds filled s same answers sent (told, read, any, are, lies, taken) asks =
-      let bytes = (join_tells (front kind) (front kind) (outlines_bytes encoding values told) (outlines_bytes encoding values told') refl (sym read ∙ sent)).1 in
+      let bytes = (join_tells (front kind) (front kind) (flat_map (outline_over_bytes encoding values) told) (flat_map (outline_over_bytes encoding values) told') refl (sym read ∙ sent)).1 in
       let alike = outlines_tell laws.cmp laws.eq encoding values tell.keys tell.value (SameGapTold laws.cmp encoding) (λ g h e. e.1) n told told' left answers.left
       (same_begin laws o eqv encoding values tell n local peer root sides small
       (SameGapTold laws.cmp encoding) gaps gaps' told told' left answers.left same are answers.begins) (fits_read laws local n told before after lies taken)
@@ -324,21 +325,21 @@ module _ {K V H : Type 0} (laws : Laws K V H) (o : IsTotalOrder laws.cmp) (eqv :
       sent ∙ append_assoc (front root_kind) (count_bytes (length peer.rows)) (option_bytes (λ d. d) (whole_digest (whole_item peer.tree.format laws.bytes_of tree))),
     )
     can_be_taken digest_of (Outlines m gs) (Outlines m' hs) rounds reply some pages same (told', answers, sent) = (
-      outlines_bytes encoding values told',
+      flat_map (outline_over_bytes encoding values) told',
       answers_say (SameGapTold laws.cmp encoding) (λ t. outline_bytes encoding values (bound_key encoding [] t.0.after) t.1) (λ t u e i. outline_bytes encoding values (e.0.1 i) (e.1 i)) InTree
           (λ g. IsOutlineIn laws.cmp is_key is_value n true (owned_gap g)) (λ h x. Told true (h, x)) (λ g h x. says true g h x) gs.items hs.items told' same some.0
           (each-with (λ g. Filled 257 rounds (owned_gap g)) InTree gs.items (λ g. in_tree 257 rounds g) pages) answers,
       sent,
     )
     can_be_taken digest_of (Nodes m gs) (Nodes m' hs) rounds reply some pages same (told', answers, sent) = (
-      outlines_bytes encoding values told',
+      flat_map (outline_over_bytes encoding values) told',
       answers_say (SameGapTold laws.cmp encoding) (λ t. outline_bytes encoding values (bound_key encoding [] t.0.after) t.1) (λ t u e i. outline_bytes encoding values (e.0.1 i) (e.1 i)) InTree
           (λ g. IsOutlineIn laws.cmp is_key is_value n false (owned_gap g)) (λ h x. Told false (h, x)) (λ g h x. says false g h x) gs.items hs.items told' same some.0
           (each-with (λ g. Filled 257 0 (owned_gap g)) InTree gs.items (λ g. in_tree 257 0 g) pages) answers,
       sent,
     )
     can_be_taken digest_of (RowsAt ws) (RowsAt xs) rounds reply some pages same (told', answers, sent) = (
-      values_bytes values told',
+      flat_map (value_at_bytes values) told',
       answers_say (SameWanted laws.cmp encoding) (λ t. option_bytes values t.1) (λ t u e. ap (option_bytes values) e.1) (λ w. ⊤)
           (λ w. IsOption is_value) (λ w value. value ≡ get laws.cmp peer.rows w.key)
           (λ w x value e f is. value_said laws o is_key is_value (side peer) told x value is) ws.items xs.items told' same some
@@ -346,7 +347,7 @@ module _ {K V H : Type 0} (laws : Laws K V H) (o : IsTotalOrder laws.cmp) (eqv :
       sent,
     )
     can_be_taken digest_of (RowsIn gs) (RowsIn hs) rounds reply some pages same (told', answers, sent) = (
-      parts_bytes encoding values told',
+      flat_map (part_in_bytes encoding values) told',
       answers_say (SameGapTold laws.cmp encoding) (λ t. part_bytes encoding values (bound_key encoding [] t.0.after) t.1) (λ t u e i. part_bytes encoding values (e.0.1 i) (e.1 i)) (λ g. ⊤)
           (λ g. IsPartIn laws.cmp is_key is_value (owned_gap g)) (IsPartOf laws.cmp peer.rows)
           (λ g h part e f is. part_said laws o is_key is_value (side peer) told (owned_gap g) h part sides.up_peer

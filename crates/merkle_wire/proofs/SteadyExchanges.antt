@@ -1,6 +1,6 @@
 -- An exchange of messages with an honest peer whose rows and settings stayed as it answered, by any tree of its map: what comes next is steady, leaves less
 -- to ask for, and has keys of the two sides alone; and the reply is refused only when out of memory.
-use Rattle.std.proofs.Common.{◌≡◌, ℕ, Bool, true, List, length, refl, sym, ap, subst, ◌∙◌, arith}
+use Rattle.std.proofs.Common.{◌≡◌, ℕ, Bool, true, List, length, refl, sym, ap, subst, ◌∙◌, arith, ◌<◌}
 use Rattle.std.specs.List.{AllByRecursion}
 use Rattle.std.specs.Cmp.{IsTotalOrder, IsEquivalence}
 use Rattle.key_order.specs.Map.{IsMap, SameMap}
@@ -11,19 +11,17 @@ use Rattle.merkle_replica.specs.Laws.{Laws}
 use Rattle.merkle_replica.proofs.SideLaws.{same_side}
 use Rattle.merkle_tree_theory.specs.Canonical.{IsCanonicalRoot, IsTreeOf, SamePages}
 use Rattle.merkle_tree_theory.specs.Gap.{Gap}
-use Rattle.merkle_tree_theory.specs.State.{SameSettings, map_of}
+use Rattle.merkle_tree_theory.specs.State.{SameSettings}
 use Rattle.merkle_tree_theory.specs.Stream.{page_digest}
 use Rattle.merkle_tree_theory.specs.Tree.{Tree}
 use Rattle.merkle_tree_theory.specs.declared.page_format.PageFormat.{PageFormat}
 use Rattle.merkle_wire.specs.Asking.{AsksForSome}
-use Rattle.merkle_wire.specs.Cost.{keys_taken, nodes_taken, pages_taken}
 use Rattle.merkle_wire.specs.Faults.{AreOtherSettings, IsUnread}
 use Rattle.merkle_wire.specs.Found.{nothing}
-use Rattle.merkle_wire.specs.Next.{IsNext, IsStopped}
+use Rattle.merkle_wire.specs.Next.{IsNext, IsStopped, IfAsks}
 use Rattle.merkle_wire.specs.Questions.{question_bytes}
 use Rattle.merkle_wire.specs.Replies.{IsReply}
-use Rattle.merkle_wire.specs.Sessions.{Covers, CoversNext}
-use Rattle.merkle_wire.specs.Steady.{AsksForPages, CanBeTold, GoesDown, HasKeysNext, HasKeysOfSides, IsFilled, IsMemoryOrLimit, IsSteadyCatchUp, KeepsKeys, LeavesLess, StaysSteady, SteadyNext, WhileSteady, times_asked, times_found}
+use Rattle.merkle_wire.specs.Sessions.{CanBeTold, IsMemoryOrLimit}
 use Rattle.merkle_wire.specs.Underway.{Underway}
 use Rattle.merkle_wire.specs.declared.answering.AnswerError.{AnswerError}
 use Rattle.merkle_wire.specs.declared.answering.AnswerError.TheVariants as answer
@@ -44,6 +42,10 @@ use Rattle.merkle_wire.proofs.TellingQuestions.{SameQuestion, question_tells}
 use Rattle.merkle_wire.proofs.SessionEnds.{leaves_less}
 use Rattle.merkle_wire.proofs.AskedNext.{next_steady}
 use Rattle.merkle_wire.proofs.SteadyCatchUps.{memory_alone, stay}
+use Rattle.merkle_wire.specs.Cost.{entries_taken}
+use Rattle.merkle_wire.specs.declared.message.Kind.TheVariants.{Outlines as outlines_kind, Nodes as nodes_kind, RowsAt as rows_at_kind}
+use Rattle.merkle_wire.proofs.Covering.{Covers, CoversNext, ForItsTrees}
+use Rattle.merkle_wire.proofs.Steady.{AsksForPages, HasKeysOfSides, IsFilled, IsSteadyCatchUp, times_asked, times_found, left_for}
 
 -- what comes of a reply: where it is taken, what comes next covers what is missing, is steady, leaves less to ask for, and has keys of the two sides alone;
 -- and it is refused only when out of memory
@@ -51,11 +53,14 @@ pub record Comes {K V H : Type 0} (laws : Laws K V H) (n : ℕ) (encoding : K �
   pub covers : (next : Next K V) → IsNext laws n encoding values local before reply next → (root : Tree K (List ℕ))
       → IsTreeOf laws.cmp (laws.key_digest peer.hasher) peer.base root (tree_map laws peer) → HasSmallMap laws n peer
       → Covers laws local peer root before → CoversNext laws local peer root encoding next
-  pub steady : (next : Next K V) → IsNext laws n encoding values local before reply next → StaysSteady laws n peer before next
-  pub less : (next : Next K V) → IsNext laws n encoding values local before reply next → GoesDown laws n peer before next
-  pub keys : (next : Next K V) → IsNext laws n encoding values local before reply next → HasKeysOfSides laws local peer before → KeepsKeys laws n peer local next
+  pub steady : (next : Next K V) → IsNext laws n encoding values local before reply next
+      → ForItsTrees laws n peer (λ root. IsSteadyCatchUp laws peer root before → IfAsks (IsSteadyCatchUp laws peer root) next)
+  pub less : (next : Next K V) → IsNext laws n encoding values local before reply next
+      → ForItsTrees laws n peer (λ root. IsSteadyCatchUp laws peer root before → IfAsks (λ after. left_for laws peer root after < left_for laws peer root before) next)
+  pub keys : (next : Next K V) → IsNext laws n encoding values local before reply next → HasKeysOfSides laws local peer before
+      → (HasSmallMap laws n peer → IfAsks (HasKeysOfSides laws local peer) next)
   pub stops : (is_key : K → Type 0) (is_value : V → Type 0) (error : SessionError) → IsStopped laws n encoding values is_key is_value local before reply error
-      → WhileSteady laws n peer (λ root. CanBeTold laws is_key is_value peer → IsMemoryOrLimit error) before
+      → ForItsTrees laws n peer (λ root. IsSteadyCatchUp laws peer root before → CanBeTold laws is_key is_value peer → IsMemoryOrLimit error)
 
 module _ {K V H : Type 0} (laws : Laws K V H) (o : IsTotalOrder laws.cmp) (eqv : IsEquivalence laws.eq)
     (respects : (h : H) (a b : V) → laws.eq a b ≡ true → laws.value_digest h a ≡ laws.value_digest h b)
@@ -84,32 +89,34 @@ module _ {K V H : Type 0} (laws : Laws K V H) (o : IsTotalOrder laws.cmp) (eqv :
     replies = subst (λ rs. IsReply laws.cmp laws.bytes_of encoding values digest_of n rs peer.tree question reply) (sym rows) is
 
     -- what comes next is steady
-    stays_steady : (next : Next K V) → IsNext laws n encoding values local before reply next → WhileSteady laws n (side met) (λ root. SteadyNext laws (side met) root next) before
+    stays_steady : (next : Next K V) → IsNext laws n encoding values local before reply next
+        → ForItsTrees laws n (side met) (λ root. IsSteadyCatchUp laws (side met) root before → IfAsks (IsSteadyCatchUp laws (side met) root) next)
     stays_steady next (found, again, taken, goes) root of_peer small steady =
         let here = subst (λ s. IsSteadyCatchUp laws s root before) (sym same) steady in
         let t = stay laws o eqv encoding values tell n local peer root (sides root of_peer small)
         (lengths small) digest_of before.asked question before.rounds before.left reply before.found found again here alike replies taken in
-        subst (λ s. SteadyNext laws s root next) same (next_steady laws (side peer) root encoding again before.rounds found next t.fit t.steady goes)
+        subst (λ s. IfAsks (IsSteadyCatchUp laws s root) next) same (next_steady laws (side peer) root encoding again before.rounds found next t.fit t.steady goes)
 
     -- it leaves less to ask for
-    goes_on_less : (next : Next K V) → IsNext laws n encoding values local before reply next → WhileSteady laws n (side met) (λ root. LeavesLess laws (side met) root before next) before
+    goes_on_less : (next : Next K V) → IsNext laws n encoding values local before reply next
+        → ForItsTrees laws n (side met) (λ root. IsSteadyCatchUp laws (side met) root before → IfAsks (λ after. left_for laws (side met) root after < left_for laws (side met) root before) next)
     goes_on_less next comes root of_peer small steady =
-        subst (λ s. LeavesLess laws s root before next) same
+        subst (λ s. IfAsks (λ after. left_for laws s root after < left_for laws s root before) next) same
         (leaves_less laws o eqv encoding values tell n local peer root (sides root of_peer small) (lengths small) digest_of before question reply next
         (subst (λ s. IsSteadyCatchUp laws s root before) (sym same) steady) alike replies comes)
 
     -- and has keys of the two sides alone
     stays_at_keys : (next : Next K V) → IsNext laws n encoding values local before reply next → HasKeysOfSides laws local (side met) before
-        → HasSmallMap laws n (side met) → HasKeysNext laws local (side met) next
+        → HasSmallMap laws n (side met) → IfAsks (HasKeysOfSides laws local (side met)) next
     stays_at_keys next comes keys small =
         let of_met = subst (λ s. IsTreeOf laws.cmp (laws.key_digest s.hasher) s.base peer.tree.root (tree_map laws s)) same (canonical, kept.digested) in
-        subst (λ s. HasKeysNext laws local s next) same
+        subst (λ s. IfAsks (HasKeysOfSides laws local s) next) same
         (next_keys laws o eqv encoding values tell n local peer peer.tree.root (sides peer.tree.root of_met small) (lengths small) digest_of before question reply next
         (subst (λ s. HasKeysOfSides laws local s before) (sym same) keys) alike replies comes)
 
     -- and the reply fails only when out of memory or at a limit
     stops_for_memory : (is_key : K → Type 0) (is_value : V → Type 0) (error : SessionError) → IsStopped laws n encoding values is_key is_value local before reply error
-        → WhileSteady laws n (side met) (λ root. CanBeTold laws is_key is_value (side met) → IsMemoryOrLimit error) before
+        → ForItsTrees laws n (side met) (λ root. IsSteadyCatchUp laws (side met) root before → CanBeTold laws is_key is_value (side met) → IsMemoryOrLimit error)
     stops_for_memory is_key is_value error stopped root of_peer small steady told =
         memory_alone laws o eqv encoding values tell n local peer root (sides root of_peer small) (lengths small) is_key is_value
         (subst (CanBeTold laws is_key is_value) (sym same) told) digest_of before question reply error
@@ -119,12 +126,12 @@ module _ {K V H : Type 0} (laws : Laws K V H) (o : IsTotalOrder laws.cmp) (eqv :
     pub exchanged_pays : (one_digest : (format : PageFormat) (t u : Tree K (List ℕ)) → SamePages laws.cmp t u
         → page_digest format laws.bytes_of t ≡ page_digest format laws.bytes_of u) (is_there : Gap K → List ℕ → Bool) (tells : TellsOwnPages laws local is_there)
         (next : Next K V) (takes : IsNext laws n encoding values local before reply next)
-        → WhileSteady laws n (side met) (λ root. PayFor laws (side met) root is_there
-        (pages_taken laws n encoding values local before.asked reply before.found takes.0 takes.1 takes.2)
-        (nodes_taken laws n encoding values local before.asked reply before.found takes.0 takes.1 takes.2) before next) before
+        → ForItsTrees laws n (side met) (λ root. IsSteadyCatchUp laws (side met) root before → PayFor laws (side met) root is_there
+        (entries_taken laws n encoding values local outlines_kind before.asked reply before.found takes.0 takes.1 takes.2)
+        (entries_taken laws n encoding values local nodes_kind before.asked reply before.found takes.0 takes.1 takes.2) before next)
     exchanged_pays one_digest is_there tells next takes root of_peer small steady =
-        subst (λ s. PayFor laws s root is_there (pages_taken laws n encoding values local before.asked reply before.found takes.0 takes.1 takes.2)
-        (nodes_taken laws n encoding values local before.asked reply before.found takes.0 takes.1 takes.2) before next) same
+        subst (λ s. PayFor laws s root is_there (entries_taken laws n encoding values local outlines_kind before.asked reply before.found takes.0 takes.1 takes.2)
+        (entries_taken laws n encoding values local nodes_kind before.asked reply before.found takes.0 takes.1 takes.2) before next) same
         (exchange_pays laws o eqv encoding values tell n local peer root (sides root of_peer small) (lengths small) one_digest is_there tells digest_of before question reply next
         (subst (λ s. IsSteadyCatchUp laws s root before) (sym same) steady) alike replies takes)
 
@@ -132,9 +139,9 @@ module _ {K V H : Type 0} (laws : Laws K V H) (o : IsTotalOrder laws.cmp) (eqv :
     pub exchanged_pays_for_keys : (next : Next K V) (takes : IsNext laws n encoding values local before reply next) (root : Tree K (List ℕ))
         → IsTreeOf laws.cmp (laws.key_digest met.tree.hasher) met.tree.base root (tree_map laws (side met)) → HasSmallMap laws n (side met)
         → Wants laws local (side met) before.found → AsksLacked laws local (side met) before.asked
-        → PayForKeys laws local (side met) root (keys_taken laws n encoding values local before.asked reply before.found takes.0 takes.1 takes.2) before next
+        → PayForKeys laws local (side met) root (entries_taken laws n encoding values local rows_at_kind before.asked reply before.found takes.0 takes.1 takes.2) before next
     exchanged_pays_for_keys next takes root of_peer small wants lacked =
-        subst (λ s. PayForKeys laws local s root (keys_taken laws n encoding values local before.asked reply before.found takes.0 takes.1 takes.2) before next) same
+        subst (λ s. PayForKeys laws local s root (entries_taken laws n encoding values local rows_at_kind before.asked reply before.found takes.0 takes.1 takes.2) before next) same
         (exchange_pays_for_keys laws o eqv encoding values tell n local peer root (sides root of_peer small) (lengths small) digest_of before question reply next
         (subst (λ s. Wants laws local s before.found) (sym same) wants) (subst (λ s. AsksLacked laws local s before.asked) (sym same) lacked) alike replies takes)
 
@@ -167,11 +174,3 @@ module _ {K V H : Type 0} (laws : Laws K V H) where
     nodes = subst (λ f. AllByRecursion (IsFilled laws peer root 257 0) f.nodes) (sym found) tt;
     once = λ k. omega (arith, ap (times_asked laws peer root k) asked, ap (times_found laws peer root k) found);
   }
-
-  -- what holds while a catch-up is steady holds by the tree that the peer had at first, where its rows and settings stayed since then
-  pub while_steady_since : (n : ℕ) (peer b : Contents K V H) → b.rows ≡ peer.rows → SameSettings peer.tree b.tree
-      → IsCanonicalRoot (λ k. level_of (laws.key_digest peer.tree.hasher k) peer.tree.base) peer.tree.root
-      → SameMap laws.cmp (λ d e. d ≡ e) (map_of peer.tree) (tree_map laws (side peer)) → HasSmallMap laws n (side peer) → (before : Underway K V) (P : Side K V H → Tree K (List ℕ) → Type 0)
-      → WhileSteady laws n (side b) (P (side b)) before → IsSteadyCatchUp laws (side peer) peer.tree.root before → P (side peer) peer.tree.root
-  while_steady_since n peer b rows settings canonical digested small before P holds steady =
-      subst (λ s. WhileSteady laws n s (P s) before) (same_side peer b rows settings) holds peer.tree.root (canonical, digested) small steady

@@ -1,5 +1,5 @@
 -- A session with an honest peer, whatever carries the messages: each of its answers is taken, unless out of memory, and they come to an end.
-use Rattle.std.proofs.Common.{◌≡◌, ℕ, ◌+◌, ◌*◌, ◌≤◌, Bool, true, List, [], ◌∷◌, length, refl, sym, ap, subst, ◌⊎◌, inl, inr, arith}
+use Rattle.std.proofs.Common.{◌≡◌, ℕ, ◌+◌, ◌*◌, ◌≤◌, Bool, true, List, [], ◌∷◌, length, refl, sym, ap, subst, ◌⊎◌, inl, inr, arith, ◌<◌}
 use Rattle.std.proofs.lemmas.List.{length-map}
 use Rattle.std.specs.Cmp.{IsTotalOrder, IsEquivalence}
 use Rattle.key_order.specs.Map.{IsMap, SameMap}
@@ -12,10 +12,9 @@ use Rattle.merkle_tree_theory.specs.Gap.{Gap}
 use Rattle.merkle_tree_theory.specs.Stream.{page_digest}
 use Rattle.merkle_tree_theory.specs.Tree.{Tree}
 use Rattle.merkle_tree_theory.specs.declared.page_format.PageFormat.{PageFormat}
-use Rattle.merkle_wire.specs.Cost.{keys_taken, keys_told, lacked_of_tree, nodes_taken, nodes_told, pages_taken, pages_told, told_in}
-use Rattle.merkle_wire.specs.Next.{IsNext, IsStopped}
-use Rattle.merkle_wire.specs.Sessions.{IsPeerReply, IsExchange}
-use Rattle.merkle_wire.specs.Steady.{AreExchangesTo, CanBeTold, IsBegun, IsMemoryOrLimit, IsSteadyCatchUp, LeavesLess, SteadyNext, left_by, left_for, left_of, total}
+use Rattle.merkle_wire.specs.Cost.{lacked_of_tree, entries_taken}
+use Rattle.merkle_wire.specs.Next.{IsNext, IsStopped, IfAsks}
+use Rattle.merkle_wire.specs.Sessions.{CanBeTold, IsMemoryOrLimit}
 use Rattle.merkle_wire.specs.Taking.{new_keys}
 use Rattle.merkle_wire.specs.Underway.{Underway}
 use Rattle.merkle_wire.specs.declared.catching_up.Next.{Next}
@@ -27,6 +26,9 @@ use Rattle.merkle_wire.proofs.Exchanges.{Tell}
 use Rattle.merkle_wire.proofs.PagesLacked.{TellsOwnPages}
 use Rattle.merkle_wire.proofs.SteadyExchanges.{Comes, begun_steady, comes, exchanged_pays, exchanged_pays_for_keys}
 use Rattle.merkle_wire.proofs.Times.{total-less}
+use Rattle.merkle_wire.specs.declared.message.Kind.TheVariants.{Outlines as outlines_kind, Nodes as nodes_kind, RowsAt as rows_at_kind}
+use Rattle.merkle_wire.specs.SessionLaws.{entries_told, told_in, IsPeerReply, IsExchange, AreExchangesTo, IsBegun}
+use Rattle.merkle_wire.proofs.Steady.{IsSteadyCatchUp, left_by, left_for, left_of, total}
 
 module _ {K V H : Type 0} (laws : Laws K V H) (o : IsTotalOrder laws.cmp) (eqv : IsEquivalence laws.eq)
     (respects : (h : H) (a b : V) → laws.eq a b ≡ true → laws.value_digest h a ≡ laws.value_digest h b)
@@ -47,32 +49,32 @@ module _ {K V H : Type 0} (laws : Laws K V H) (o : IsTotalOrder laws.cmp) (eqv :
     kept : IsKept laws.cmp laws.value_digest now
     kept = record { ascending = up_peer; digested = tree.1 }
 
-    came : Comes laws n encoding values local peer before reply
+    pub came : Comes laws n encoding values local peer before reply
     came = comes laws o eqv respects one_tree encoding values tell n local up (contents_of peer root) now refl a.settings kept tree.0
         (laws.key_digest a.tree.hasher) before a.question a.message reply a.asks a.reads a.answers
 
-    answered_steady : (next : Next K V) → IsNext laws n encoding values local before reply next → SteadyNext laws peer root next
+    answered_steady : (next : Next K V) → IsNext laws n encoding values local before reply next → IfAsks (IsSteadyCatchUp laws peer root) next
     answered_steady next takes = came.steady next takes root of_peer small steady
 
     answered_for_memory : (is_key : K → Type 0) (is_value : V → Type 0) → CanBeTold laws is_key is_value peer → (error : SessionError)
         → IsStopped laws n encoding values is_key is_value local before reply error → IsMemoryOrLimit error
     answered_for_memory is_key is_value told error stopped = came.stops is_key is_value error stopped root of_peer small steady told
 
-    answered_less : (next : Next K V) → IsNext laws n encoding values local before reply next → LeavesLess laws peer root before next
+    answered_less : (next : Next K V) → IsNext laws n encoding values local before reply next → IfAsks (λ after. left_for laws peer root after < left_for laws peer root before) next
     answered_less next takes = came.less next takes root of_peer small steady
 
     answered_pays : (one_digest : (format : PageFormat) (t u : Tree K (List ℕ)) → SamePages laws.cmp t u
         → page_digest format laws.bytes_of t ≡ page_digest format laws.bytes_of u) (is_there : Gap K → List ℕ → Bool) (tells : TellsOwnPages laws local is_there)
         (next : Next K V) (takes : IsNext laws n encoding values local before reply next)
-        → PayFor laws peer root is_there (pages_taken laws n encoding values local before.asked reply before.found takes.0 takes.1 takes.2)
-        (nodes_taken laws n encoding values local before.asked reply before.found takes.0 takes.1 takes.2) before next
+        → PayFor laws peer root is_there (entries_taken laws n encoding values local outlines_kind before.asked reply before.found takes.0 takes.1 takes.2)
+        (entries_taken laws n encoding values local nodes_kind before.asked reply before.found takes.0 takes.1 takes.2) before next
     answered_pays one_digest is_there tells next takes =
         exchanged_pays laws o eqv respects one_tree encoding values tell n local up (contents_of peer root) now refl a.settings kept tree.0
         (laws.key_digest a.tree.hasher) before a.question a.message reply a.asks a.reads a.answers
         one_digest is_there tells next takes root of_peer small steady
 
     answered_pays_for_keys : (next : Next K V) (takes : IsNext laws n encoding values local before reply next) → Wants laws local peer before.found → AsksLacked laws local peer before.asked
-        → PayForKeys laws local peer root (keys_taken laws n encoding values local before.asked reply before.found takes.0 takes.1 takes.2) before next
+        → PayForKeys laws local peer root (entries_taken laws n encoding values local rows_at_kind before.asked reply before.found takes.0 takes.1 takes.2) before next
     answered_pays_for_keys next takes =
         exchanged_pays_for_keys laws o eqv respects one_tree encoding values tell n local up (contents_of peer root) now refl a.settings kept tree.0
         (laws.key_digest a.tree.hasher) before a.question a.message reply a.asks a.reads a.answers
@@ -133,10 +135,10 @@ module _ {K V H : Type 0} (laws : Laws K V H) (o : IsTotalOrder laws.cmp) (eqv :
     nodes_left u = nodes_by laws peer root is_there u.asked + nodes_of laws peer root is_there u.found
 
     abbrev pages_in : (before : Underway K V) (more : List (Underway K V)) (last : Underway K V) → AreExchangesTo laws n encoding values local peer before more last → ℕ
-    pages_in = told_in laws n encoding values local peer (pages_told laws n encoding values local peer)
+    pages_in = told_in laws n encoding values local peer outlines_kind
 
     abbrev nodes_in : (before : Underway K V) (more : List (Underway K V)) (last : Underway K V) → AreExchangesTo laws n encoding values local peer before more last → ℕ
-    nodes_in = told_in laws n encoding values local peer (nodes_told laws n encoding values local peer)
+    nodes_in = told_in laws n encoding values local peer nodes_kind
 
     chain_pays : (before last : Underway K V) (more : List (Underway K V)) (exchanges : AreExchangesTo laws n encoding values local peer before more last) → IsSteadyCatchUp laws peer root before
         → (pages_in before more last exchanges + pages_left last ≤ pages_left before)
@@ -153,13 +155,14 @@ module _ {K V H : Type 0} (laws : Laws K V H) (o : IsTotalOrder laws.cmp) (eqv :
 
     pub session_pays : (begun last : Underway K V) (more : List (Underway K V)) (next : Next K V) → IsBegun begun
         → (so_far : AreExchangesTo laws n encoding values local peer begun more last) (e : IsExchange laws n encoding values local peer last next)
-        → (pages_in begun more last so_far + pages_told laws n encoding values local peer last next e ≤ lacked_of_tree peer.format laws.bytes_of is_there root)
-        × (nodes_in begun more last so_far + nodes_told laws n encoding values local peer last next e ≤ pages_in begun more last so_far + pages_told laws n encoding values local peer last next e)
+        → (pages_in begun more last so_far + entries_told laws n encoding values local peer outlines_kind last next e ≤ lacked_of_tree peer.format laws.bytes_of is_there root)
+        × (nodes_in begun more last so_far + entries_told laws n encoding values local peer nodes_kind last next e
+        ≤ pages_in begun more last so_far + entries_told laws n encoding values local peer outlines_kind last next e)
     session_pays begun last more next b so_far e =
         let first = begun_steady laws peer root begun b.settings b.asks_root b.nothing_found b.no_round in
         let chain = chain_pays begun last more so_far first in
         let steady = chain_steady root of_peer begun last more so_far first in
-        let end = least (pages_told laws n encoding values local peer last next e) (nodes_told laws n encoding values local peer last next e) last next
+        let end = least (entries_told laws n encoding values local peer outlines_kind last next e) (entries_told laws n encoding values local peer nodes_kind last next e) last next
         (answered_pays last e.reply e.answer root of_peer steady one_digest is_there tells next e.takes) in (
           omega (arith, chain.0, end.0, ap (pages_by laws peer root is_there) b.asks_root, ap (pages_of laws peer root is_there) b.nothing_found),
           omega (arith, chain.1, end.1, ap (nodes_by laws peer root is_there) b.asks_root, ap (nodes_of laws peer root is_there) b.nothing_found),
@@ -168,7 +171,7 @@ module _ {K V H : Type 0} (laws : Laws K V H) (o : IsTotalOrder laws.cmp) (eqv :
   -- so are the values that are told at keys, by those of the keys that the side lacks, or has with another digest
   module _ (root : Tree K (List ℕ)) (of_peer : IsTreeOf laws.cmp (laws.key_digest peer.hasher) peer.base root (tree_map laws peer)) where
     abbrev keys_in : (before : Underway K V) (more : List (Underway K V)) (last : Underway K V) → AreExchangesTo laws n encoding values local peer before more last → ℕ
-    keys_in = told_in laws n encoding values local peer (keys_told laws n encoding values local peer)
+    keys_in = told_in laws n encoding values local peer rows_at_kind
 
     abbrev left : Underway K V → ℕ
     left = keys_left laws local peer root
@@ -206,11 +209,12 @@ module _ {K V H : Type 0} (laws : Laws K V H) (o : IsTotalOrder laws.cmp) (eqv :
 
     pub session_pays_for_keys : (begun last : Underway K V) (more : List (Underway K V)) (next : Next K V) → IsBegun begun
         → (so_far : AreExchangesTo laws n encoding values local peer begun more last) (e : IsExchange laws n encoding values local peer last next)
-        → keys_in begun more last so_far + keys_told laws n encoding values local peer last next e ≤ length (new_keys laws local (tree_map laws peer))
+        → keys_in begun more last so_far + entries_told laws n encoding values local peer rows_at_kind last next e ≤ length (new_keys laws local (tree_map laws peer))
     session_pays_for_keys begun last more next b so_far e =
         let first = begun_steady laws peer root begun b.settings b.asks_root b.nothing_found b.no_round in
         let limited : IsLimited begun = (subst (Wants laws local peer) (sym b.nothing_found) tt, subst (AsksLacked laws local peer) (sym b.asks_root) tt) in
         let chain = chain_keys begun last more so_far first limited in
         let steady = chain_steady root of_peer begun last more so_far first in
-        let end = keys_least (keys_told laws n encoding values local peer last next e) last next (answered_pays_for_keys last e.reply e.answer root of_peer steady next e.takes chain.1.0 chain.1.1) in
+        let end = keys_least (entries_told laws n encoding values local peer rows_at_kind last next e) last next
+        (answered_pays_for_keys last e.reply e.answer root of_peer steady next e.takes chain.1.0 chain.1.1) in
         omega (arith, chain.0, end, begun_left begun b)

@@ -29,7 +29,7 @@ use Rattle.merkle_wire.specs.Found.{Found}
 use Rattle.merkle_wire.specs.Gaps.{owned_gap}
 use Rattle.merkle_wire.specs.Outlines.{Outline, IsTold}
 use Rattle.merkle_wire.specs.Replies.{Part, IsPartOf, whole_digest}
-use Rattle.merkle_wire.specs.Sessions.{IsFaithfulSession, IsAmong, IsRowOfPeer, IsNewRow}
+use Rattle.merkle_wire.specs.Sessions.{IsFaithfulSession, IsRowOfPeer, IsNewRow}
 use Rattle.merkle_wire.specs.Taking.{IsRootTaken, AreTaken, value_row, IsBehind, AreBehind}
 use Rattle.merkle_wire.specs.declared.gaps.OwnedGap.{OwnedGap}
 use Rattle.merkle_wire.specs.declared.wanted.Wanted.{Wanted}
@@ -37,6 +37,7 @@ use Rattle.merkle_wire.proofs.RoundCovers.{each-filter, theirs_alike, any_alike,
 use Rattle.merkle_wire.proofs.PageCovers.{AreSides, among-more, IsAbout, one_covers, one_keeps, one_new, none_hidden, at_tree}
 use Rattle.merkle_wire.proofs.PagesBelow.{in_gap-alike, get_behind}
 use Rattle.merkle_wire.proofs.TellingReplies.{SameRow, SameOutline, SamePart, SameFound}
+use Rattle.merkle_wire.proofs.Covering.{IsAmong}
 
 module _ {K V : Type 0} (cmp : K → K → Ordering) (o : IsTotalOrder cmp) where
   -- a map finds each of its pairs

@@ -3,8 +3,7 @@ use Rattle.std.proofs.Common.{ℕ, List, Option, subst}
 use Rattle.merkle_replica.specs.Contents.{Side}
 use Rattle.merkle_replica.specs.Laws.{Laws}
 use Rattle.merkle_wire.specs.Found.{Found}
-use Rattle.merkle_wire.specs.Reads.{IsReplyRead, outlines_read}
-use Rattle.merkle_wire.specs.Takes.{IsReplyTaken}
+use Rattle.merkle_wire.specs.Reads.{IsReplyRead, outlines_read, IsReplyTaken}
 use Rattle.merkle_wire.specs.Taking.{AddsRows}
 use Rattle.merkle_wire.specs.Underway.{HasTakenReply}
 use Rattle.merkle_wire.specs.declared.question.Question.{Question}

@@ -15,7 +15,7 @@ use Rattle.merkle_bytes.specs.Runs.{bound_key, run_bytes, row_behind, row_key}
 use Rattle.merkle_bytes.proofs.Listed.{run_told}
 use Rattle.merkle_wire.specs.Coming.{IsPageDigest}
 use Rattle.merkle_wire.specs.Outlines.{Outline, rows_told, digests_told, page_told, keys_among, keys_told, pages_bytes, outline_bytes}
-use Rattle.merkle_wire.specs.Replies.{Part, outlines_bytes, part_bytes, parts_bytes, values_bytes}
+use Rattle.merkle_wire.specs.Replies.{Part, part_bytes, outline_over_bytes, part_in_bytes, value_at_bytes}
 use Rattle.merkle_wire.specs.declared.gaps.OwnedGap.{OwnedGap}
 use Rattle.merkle_wire.specs.declared.wanted.Wanted.{Wanted}
 
@@ -218,18 +218,20 @@ module _ {K V : Type 0} (cmp : K → K → Ordering) (eq : V → V → Bool) (en
   -- replies to questions about the same gaps or keys
   module _ (E : OwnedGap K → OwnedGap K → Type 0) (after : (g h : OwnedGap K) → E g h → bound_key encoding [] g.after ≡ bound_key encoding [] h.after) where
     pub outlines_tell : (n : ℕ) (ts us : List (OwnedGap K × Outline K V)) (l m : List (OwnedGap K)) → AllZip E (map (λ t. t.0) ts ++ l) (map (λ t. t.0) us ++ m)
-        → AllByRecursion (λ t. Fits n t.1) ts → AllByRecursion (λ t. Fits n t.1) us → outlines_bytes encoding values ts ≡ outlines_bytes encoding values us
+        → AllByRecursion (λ t. Fits n t.1) ts → AllByRecursion (λ t. Fits n t.1) us → flat_map (outline_over_bytes encoding values) ts ≡ flat_map (outline_over_bytes encoding values) us
         → AllZip (λ t u. E t.0 u.0 × (SameOutline cmp eq) t.1 u.1) ts us
     outlines_tell n = told_alike (λ t. outline_bytes encoding values (bound_key encoding [] t.0.after) t.1) E (λ t. Fits n t.1) (λ t. Fits n t.1) (λ t u. (SameOutline cmp eq) t.1 u.1)
         (λ t. outline_some (bound_key encoding [] t.0.after) t.1)
         (λ t u r s same f g e. outline_tells n (bound_key encoding [] t.0.after) t.1 u.1 r s f g (e ∙ ap (λ l. outline_bytes encoding values l u.1 ++ s) (sym (after t.0 u.0 same))))
 
     pub parts_tell : (ts us : List (OwnedGap K × Part K V)) (l m : List (OwnedGap K)) → AllZip E (map (λ t. t.0) ts ++ l) (map (λ t. t.0) us ++ m)
-        → AllByRecursion (λ t. ⊤) ts → AllByRecursion (λ t. ⊤) us → parts_bytes encoding values ts ≡ parts_bytes encoding values us → AllZip (λ t u. E t.0 u.0 × (SamePart cmp eq) t.1 u.1) ts us
+        → AllByRecursion (λ t. ⊤) ts → AllByRecursion (λ t. ⊤) us → flat_map (part_in_bytes encoding values) ts ≡ flat_map (part_in_bytes encoding values) us
+        → AllZip (λ t u. E t.0 u.0 × (SamePart cmp eq) t.1 u.1) ts us
     parts_tell = told_alike (λ t. part_bytes encoding values (bound_key encoding [] t.0.after) t.1) E (λ t. ⊤) (λ t. ⊤) (λ t u. (SamePart cmp eq) t.1 u.1)
         (λ t. part_some (bound_key encoding [] t.0.after) t.1)
         (λ t u r s same f g e. part_tells (bound_key encoding [] t.0.after) t.1 u.1 r s (e ∙ ap (λ l. part_bytes encoding values l u.1 ++ s) (sym (after t.0 u.0 same))))
 
   pub values_tell : (E : Wanted K → Wanted K → Type 0) (ts us : List (Wanted K × Option V)) (l m : List (Wanted K)) → AllZip E (map (λ t. t.0) ts ++ l) (map (λ t. t.0) us ++ m)
-      → AllByRecursion (λ t. ⊤) ts → AllByRecursion (λ t. ⊤) us → values_bytes values ts ≡ values_bytes values us → AllZip (λ t u. E t.0 u.0 × (SameFound cmp eq) t.1 u.1) ts us
+      → AllByRecursion (λ t. ⊤) ts → AllByRecursion (λ t. ⊤) us → flat_map (value_at_bytes values) ts ≡ flat_map (value_at_bytes values) us
+      → AllZip (λ t u. E t.0 u.0 × (SameFound cmp eq) t.1 u.1) ts us
   values_tell E = told_alike (λ t. option_bytes values t.1) E (λ t. ⊤) (λ t. ⊤) (λ t u. (SameFound cmp eq) t.1 u.1) (λ t. value_some t.1) (λ t u r s same f g e. value_tells t.1 u.1 r s e)

@@ -1,10 +1,9 @@
 -- How often a key is among keys and in gaps: once at most in a gap that keys part.
 use Rattle.std.proofs.Common.{◌≡◌, ℕ, ◌+◌, ◌≤◌, Bool, true, false, cond, ◌&&◌, List, [], ◌∷◌, ◌++◌, map, Option, Some, None, refl, sym, ap, ap₂, subst, ◌∙◌, ◌⊎◌, inl, inr, arith}
-use Rattle.std.specs.List.{filter}
+use Rattle.std.specs.List.{filter, sum_by}
 use Rattle.std.specs.List.Sorted.{IsPermutation}
 use Rattle.std.proofs.lemmas.List.Sorted.{sum_by-IsPermutation}
 use Rattle.std.proofs.lemmas.List.Sums.{sum_by-cons}
-use Rattle.std.specs.List.{sum_by}
 use Rattle.std.specs.Cmp.{IsTotalOrder, tied_back, alike_right}
 use Rattle.std.specs.Ordering.{is_lt, is_eq, is_gt}
 use Rattle.std.specs.declared.cmp.Ordering.{Ordering}
@@ -19,9 +18,9 @@ use Rattle.merkle_replica.specs.Laws.{Laws}
 use Rattle.merkle_tree_theory.specs.Gap.{Gap, IsInGap, SameGap, is_after, is_before, part_before, part_behind}
 use Rattle.merkle_tree_theory.proofs.InGaps.{after_low, before_low, in_gap-same, is_after-alike, is_before-alike, test_from_after, test_from_before}
 use Rattle.merkle_wire.specs.Coming.{AscendIn}
-use Rattle.merkle_wire.specs.Steady.{times_at, times_in, total}
 use Rattle.merkle_wire.specs.Taking.{AreNewGaps, IsNewGap}
 use Rattle.merkle_wire.proofs.TakenGaps.{IsGapOrNone, gap_or_none}
+use Rattle.merkle_wire.proofs.Steady.{times_at, times_in, total}
 
 module _ {X : Type 0} (times : X → ℕ) where
   pub total-append : (xs ys : List X) → total times (xs ++ ys) ≡ total times xs + total times ys

@@ -14,10 +14,8 @@ use Rattle.merkle_tree_theory.specs.Tree.{Tree}
 use Rattle.merkle_wire.specs.Coming.{AscendIn, LiesIn}
 use Rattle.merkle_wire.specs.Found.{Found}
 use Rattle.merkle_wire.specs.Gaps.{owned_gap}
-use Rattle.merkle_wire.specs.Outlines.{Outline, rows_told, digests_told, page_told, IsTold, keys_among, nodes_among}
+use Rattle.merkle_wire.specs.Outlines.{Outline, rows_told, digests_told, page_told, IsTold, keys_among, nodes_among, AreRowsAt}
 use Rattle.merkle_wire.specs.Replies.{Part}
-use Rattle.merkle_wire.specs.RowsAt.{AreRowsAt}
-use Rattle.merkle_wire.specs.Steady.{times_at, times_found, times_in, times_over, total}
 use Rattle.merkle_wire.specs.Taking.{AddsKeys, AddsRows, AreBehind, AreTaken, IsBehind, IsRootTaken, IsPageTaken, has_digest, has_row, new_keys, new_rows, value_row}
 use Rattle.merkle_wire.specs.declared.gaps.OwnedGap.{OwnedGap}
 use Rattle.merkle_wire.specs.declared.wanted.Wanted.{Wanted}
@@ -25,6 +23,7 @@ use Rattle.merkle_wire.proofs.SameNodes.{keys_over-same}
 use Rattle.merkle_wire.proofs.TakenGaps.{IsGapOrNone, nodes_or_none}
 use Rattle.merkle_wire.proofs.TellingReplies.{SameOutline, SameRow}
 use Rattle.merkle_wire.proofs.Times.{ascend_and_behind, ascend_times, at-same, in-alike, new_gaps_times, total-append, total-filter, total-mapped, total-same}
+use Rattle.merkle_wire.proofs.Steady.{times_at, times_found, times_in, times_over, total}
 
 module _ {K V H : Type 0} (laws : Laws K V H) (o : IsTotalOrder laws.cmp) (local peer : Side K V H) (root tree : Tree K (List ℕ)) (pages_same : SamePages laws.cmp root tree) (n : ℕ) (k : K) where
   abbrev at : K → ℕ

@@ -11,16 +11,16 @@ use Rattle.merkle_bytes.specs.Keys.{key_behind}
 use Rattle.merkle_bytes.specs.Options.{option_bytes}
 use Rattle.merkle_bytes.specs.Runs.{bound_key, run_bytes, row_behind, row_key}
 use Rattle.merkle_wire.specs.Coming.{AscendIn, IsPageDigest}
-use Rattle.merkle_wire.specs.Fit.{IsOutlineIn, SaysRoot}
+use Rattle.merkle_wire.specs.Fit.{IsOutlineIn, SaysRoot, AreNodesIn, NoOutline, NoRows, NoPart, NoPage}
 use Rattle.merkle_wire.specs.Gaps.{owned_gap}
-use Rattle.merkle_wire.specs.Outlines.{Outline, rows_told, digests_told, page_told, outline_bytes, keys_among, keys_told, pages_bytes}
+use Rattle.merkle_wire.specs.Outlines.{Outline, rows_told, digests_told, page_told, outline_bytes, keys_among, keys_told, pages_bytes, nodes_bytes}
 use Rattle.merkle_wire.specs.Replies.{Part, part_bytes}
-use Rattle.merkle_wire.specs.Unfit.{NoDigests, NoNodes, NoOutline, NoPage, NoPageDigest, NoPageDigests, NoPart, NoRows}
 use Rattle.merkle_wire.specs.declared.gaps.OwnedGap.{OwnedGap}
 use Rattle.merkle_wire.specs.declared.wanted.Wanted.{Wanted}
 use Rattle.merkle_wire.proofs.WrittenKeys.{told_as_keys}
 use Rattle.merkle_wire.proofs.TellingReplies.{Fits, SameRow, keys_tell, outline_some, outline_tells, page_tells, part_tells, pages_begin, digests_begin, rows_tell, same_length}
 use Rattle.merkle_wire.proofs.Outside.{ascend-same}
+use Rattle.merkle_bytes.specs.Reading.{BeginsWithNo}
 
 -- a byte at the front, and what is after it
 first_byte : (a b : ℕ) (r s : List ℕ) → a ∷ r ≡ b ∷ s → (a ≡ b) × (r ≡ s)
@@ -72,7 +72,7 @@ module _ {K : Type 0} (cmp : K → K → Ordering) (o : IsTotalOrder cmp) (encod
       (both.0, sym both.1)
 
   module _ (n : ℕ) (last : List ℕ) (gap : OwnedGap K) (left : List ℕ) where
-    pub no_nodes : NoKeys encoding is_key last left → NoNodes cmp is_key encoding n last gap left
+    pub no_nodes : NoKeys encoding is_key last left → BeginsWithNo (nodes_bytes encoding last) (AreNodesIn cmp is_key n (owned_gap gap)) left
     no_nodes none nodes more are e =
         none (keys_among nodes) (flat_map (λ d. d.1) nodes ++ more) (each_key nodes are.1) (e ∙ append_assoc (keys_told encoding last (keys_among nodes)) (flat_map (λ d. d.1) nodes) more)
       where
@@ -81,15 +81,18 @@ module _ {K : Type 0} (cmp : K → K → Ordering) (o : IsTotalOrder cmp) (encod
         each_key (d ∷ ds) a = (a.0, each_key ds a.1)
 
     module _ (keys : List K) (rest : List ℕ) (read : left ≡ keys_told encoding last keys ++ rest) where
-      pub no_nodes-outside : ¬ AscendIn cmp (owned_gap gap) keys → NoNodes cmp is_key encoding n last gap left
+      pub no_nodes-outside : ¬ AscendIn cmp (owned_gap gap) keys → BeginsWithNo (nodes_bytes encoding last) (AreNodesIn cmp is_key n (owned_gap gap)) left
       no_nodes-outside not nodes more are e =
           not (ascend-same cmp o (owned_gap gap) (keys_among nodes) keys (behind_keys last keys (keys_among nodes) (flat_map (λ d. d.1) nodes) left rest more read e).0 are.0)
 
-      pub no_nodes-digests : NoDigests n (length keys) rest → NoNodes cmp is_key encoding n last gap left
+      pub no_nodes-digests : BeginsWithNo (flat_map (λ d. d)) (λ digests. (length digests ≡ (length keys)) × AllByRecursion (λ d. length d ≡ n) digests) rest
+          → BeginsWithNo (nodes_bytes encoding last) (AreNodesIn cmp is_key n (owned_gap gap)) left
       no_nodes-digests none nodes more are e =
           let both = behind_keys last keys (keys_among nodes) (flat_map (λ d. d.1) nodes) left rest more read e in
-          none (map (λ d. d.1) nodes) more (length-map nodes (λ d. d.1) ∙ sym (length-map nodes (λ d. d.0)) ∙ same_length cmp (keys_among nodes) keys both.0)
-          (each_digest n nodes are.2) (both.1 ∙ ap (λ t. t ++ more) (flat_digests nodes))
+          none (map (λ d. d.1) nodes) more (
+            length-map nodes (λ d. d.1) ∙ sym (length-map nodes (λ d. d.0)) ∙ same_length cmp (keys_among nodes) keys both.0,
+            each_digest n nodes are.2,
+          ) (both.1 ∙ ap (λ t. t ++ more) (flat_digests nodes))
 
   module _ (last : List ℕ) (gap : OwnedGap K) (left : List ℕ) where
     module _ (first mid : List ℕ) (read : left ≡ first ++ mid) (long : length first ≡ 16) where
@@ -115,10 +118,10 @@ module _ {K : Type 0} (cmp : K → K → Ordering) (o : IsTotalOrder cmp) (encod
             let both = behind_keys last keys others (pages_bytes pages) mid rest more then (behind_digest digest others pages more is.3 e) in
             not (ascend-same cmp o (owned_gap gap) others keys both.0 is.1)
 
-        pub no_page-pages : NoPageDigests (length keys + 1) rest → NoPage cmp is_key encoding last gap left
+        pub no_page-pages : BeginsWithNo pages_bytes (λ pages. (length pages ≡ (length keys + 1)) × AllByRecursion IsPageDigest pages) rest → NoPage cmp is_key encoding last gap left
         no_page-pages none digest others pages more is e =
             let both = behind_keys last keys others (pages_bytes pages) mid rest more then (behind_digest digest others pages more is.3 e) in
-            none pages more (is.4 ∙ ap (λ m. m + 1) (same_length cmp others keys both.0)) is.5 both.1
+            none pages more (is.4 ∙ ap (λ m. m + 1) (same_length cmp others keys both.0), is.5) both.1
 
 module _ {K V : Type 0} (cmp : K → K → Ordering) (o : IsTotalOrder cmp) (eq : V → V → Bool) (encoding : K → List ℕ) (values : V → List ℕ) (tells : (x y : K) → encoding x ≡ encoding y → Same cmp x y)
     (tell_value : (x y : V) (r s : List ℕ) → values x ++ r ≡ values y ++ s → (eq x y ≡ true) × (r ≡ s)) (is_key : K → Type 0) (is_value : V → Type 0) where
@@ -148,7 +151,7 @@ module _ {K V : Type 0} (cmp : K → K → Ordering) (o : IsTotalOrder cmp) (eq 
 
     -- what a kind of outlines can't say is not said at all
     pub no_outline : (kind : ℕ) (mid : List ℕ) → left ≡ kind ∷ mid → (kind ≡ 0 → NoRows cmp is_key is_value encoding values front_key gap mid)
-        → (kind ≡ 1 → NoNodes cmp is_key encoding n front_key gap mid)
+        → (kind ≡ 1 → BeginsWithNo (nodes_bytes encoding front_key) (AreNodesIn cmp is_key n (owned_gap gap)) mid)
         → (kind ≡ 2 → with_pages ≡ true → NoPage cmp is_key encoding front_key gap mid) → NoOutline cmp is_key is_value encoding values n with_pages gap left
     no_outline kind mid read rows nodes page (rows_told rs) more is e =
         let both = first_byte kind 0 mid (rows_bytes front_key rs ++ more) (sym read ∙ e) in rows both.0 rs more is both.1
@@ -205,24 +208,24 @@ module _ {K V : Type 0} (cmp : K → K → Ordering) (eq : V → V → Bool) (en
   parts_end gap y z r s e = (part_tells cmp eq encoding values tells tell_value (bound_key encoding [] gap.after) y z r s e).1
 
 -- the digest of a page begins with a flag
-pub no_page_digest : (left : List ℕ) → ((flag : Bool) (more : List ℕ) → left ≢ cond flag 1 0 ∷ more) → NoPageDigest left
+pub no_page_digest : (left : List ℕ) → ((flag : Bool) (more : List ℕ) → left ≢ cond flag 1 0 ∷ more) → BeginsWithNo (option_bytes (λ d. d)) IsPageDigest left
 no_page_digest left none None rest is e = none false rest e
 no_page_digest left none (Some d) rest is e = none true (d ++ rest) e
 
 -- this many digests, one more than were read
 pub no_digests : (n count : ℕ) (left rest : List ℕ) (ds : List (List ℕ)) → left ≡ flat_map (λ d. d) ds ++ rest → AllByRecursion (λ d. length d ≡ n) ds → length ds < count
-    → length rest < n → NoDigests n count left
-no_digests n count left rest ds read are few short others more many long e =
+    → length rest < n → BeginsWithNo (flat_map (λ d. d)) (λ digests. (length digests ≡ count) × AllByRecursion (λ d. length d ≡ n) digests) left
+no_digests n count left rest ds read are few short others more (many, long) e =
     let behind = digests_begin n ds others rest more are long (omega (arith, few, many)) (sym read ∙ e) in omega (arith, short, behind)
 
 -- this many digests of pages
 pub no_pages : (count : ℕ) (left rest : List ℕ) (ps : List (Option (List ℕ))) → left ≡ pages_bytes ps ++ rest → AllByRecursion IsPageDigest ps → length ps < count
-    → NoPageDigest rest → NoPageDigests count left
-no_pages count left rest ps read are few none others more many long e =
+    → BeginsWithNo (option_bytes (λ d. d)) IsPageDigest rest → BeginsWithNo pages_bytes (λ pages. (length pages ≡ count) × AllByRecursion IsPageDigest pages) left
+no_pages count left rest ps read are few none others more (many, long) e =
     let (page, behind, is, f) = pages_begin ps others rest more are long (omega (arith, few, many)) (sym read ∙ e) in none page behind is f
 
 -- the number of rows was read, and after it no digest of a page stands
-pub no_root-digest : (count : ℕ) (left rest : List ℕ) → left ≡ count_bytes count ++ rest → NoPageDigest rest → (all : List ℕ) → SaysRoot all → left ≢ all
+pub no_root-digest : (count : ℕ) (left rest : List ℕ) → left ≡ count_bytes count ++ rest → BeginsWithNo (option_bytes (λ d. d)) IsPageDigest rest → (all : List ℕ) → SaysRoot all → left ≢ all
 no_root-digest count left rest read none all (number, digest, few, is, said) e =
     let page = option_bytes (λ d. d) digest in
     none digest [] is ((count_told count number rest page (sym read ∙ e ∙ said)).1 ∙ sym (append-nil page))

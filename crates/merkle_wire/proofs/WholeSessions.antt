@@ -15,13 +15,15 @@ use Rattle.merkle_tree_theory.specs.Page.{nodes_of, row_nodes, pairs, row_pairs,
 use Rattle.merkle_tree_theory.specs.Ranges.{IsPageOf}
 use Rattle.merkle_tree_theory.specs.Tree.{Tree, page, Row, high, node, Node}
 use Rattle.merkle_tree_theory.proofs.PagesIn.{pairs_down, inside}
-use Rattle.merkle_wire.specs.Sessions.{HaveFaithfulNodes, NoNodesCollide, AreBrought, Covers, CoversNext, IsExchange, AreExchanges, IsSession}
+use Rattle.merkle_wire.specs.Sessions.{HaveFaithfulNodes, NoNodesCollide, AreBrought}
 use Rattle.merkle_wire.specs.Underway.{Underway}
 use Rattle.merkle_wire.specs.declared.catching_up.Next.{Next}
 use Rattle.merkle_wire.specs.declared.catching_up.Next.TheVariants.{Ask, Came}
 use Rattle.merkle_wire.proofs.Exchanges.{Tell}
 use Rattle.merkle_wire.proofs.Fitting.{found_each}
 use Rattle.merkle_wire.proofs.NextCovers.{begun_covers, exchanged}
+use Rattle.merkle_wire.specs.SessionLaws.{IsExchange, AreExchanges, IsSession}
+use Rattle.merkle_wire.proofs.Covering.{Covers, CoversNext}
 
 module _ {K V H : Type 0} (laws : Laws K V H) (o : IsTotalOrder laws.cmp) (eqv : IsEquivalence laws.eq)
     (respects : (h : H) (a b : V) → laws.eq a b ≡ true → laws.value_digest h a ≡ laws.value_digest h b)

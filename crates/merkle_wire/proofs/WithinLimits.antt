@@ -7,8 +7,8 @@ use Rattle.merkle_replica.specs.Laws.{Laws}
 use Rattle.merkle_wire.specs.Asking.{IsAskedOf}
 use Rattle.merkle_wire.specs.Found.{Found}
 use Rattle.merkle_wire.specs.Limits.{Allows, IsAbove, IsLeftAfter, IsOverRows, no_limits}
-use Rattle.merkle_wire.specs.Next.{HasLeft, IsCame, IsStopped, IsUnlimited, StaysWithin}
-use Rattle.merkle_wire.specs.Steady.{IsMemoryOrLimit}
+use Rattle.merkle_wire.specs.Next.{HasLeft, IsCame, IsStopped, StaysWithin, IfAsks}
+use Rattle.merkle_wire.specs.Sessions.{IsMemoryOrLimit}
 use Rattle.merkle_wire.specs.Underway.{Underway, HasTakenReply}
 use Rattle.merkle_wire.specs.declared.catching_up.Next.{Next}
 use Rattle.merkle_wire.specs.declared.catching_up.Next.TheVariants.{Ask, Came}
@@ -82,7 +82,7 @@ module _ {K V H : Type 0} (laws : Laws K V H) (n : ℕ) (encoding : K → List �
 
 module _ {K V : Type 0} where
   -- without limits a catch-up goes on without
-  pub stays_unlimited : (before : Underway K V) (reply : ℕ) (next : Next K V) → before.left ≡ no_limits → StaysWithin before reply next → IsUnlimited next
+  pub stays_unlimited : (before : Underway K V) (reply : ℕ) (next : Next K V) → before.left ≡ no_limits → StaysWithin before reply next → IfAsks (λ session. session.left ≡ no_limits) next
   stays_unlimited before reply (Came rows) none within = tt
   stays_unlimited before reply (Ask session message) none (left, after, (has, rows)) =
       let of_none = subst (λ l. IsLeftAfter reply l left) none after in

@@ -16,10 +16,6 @@ IsPageDigest None = ⊤
 IsPageDigest (Some d) = length d ≡ 16
 
 module _ {K : Type 0} (cmp : K → K → Ordering) where
-  -- the key is above the one bound and below the other
-  abbrev pub IsBetween : Option K → Option K → K → Type 0
-  IsBetween after before k = IsAfter cmp after k × IsBefore cmp before k
-
   -- the keys ascend between two bounds: each is above the one before it, the first above the first bound, and all are below the second
   abbrev pub AscendBetween : Option K → Option K → List K → Type 0
   AscendBetween after before [] = ⊤

@@ -1,5 +1,5 @@
 -- What can be told of what was asked for. A reply that tells it is taken, and no other is.
-use Rattle.std.specs.Prelude.{◌≡◌, ◌≢◌, ℕ, ◌<◌, ◌+◌, ◌^◌, List, [], ◌++◌, length, map, Bool, true, false, Option}
+use Rattle.std.specs.Prelude.{◌≡◌, ◌≢◌, ℕ, ◌<◌, ◌+◌, ◌^◌, List, [], ◌++◌, length, map, Bool, true, false, Option, flat_map}
 use Rattle.std.specs.List.{AllByRecursion}
 use Rattle.std.specs.declared.cmp.Ordering.{Ordering}
 use Rattle.merkle_bytes.specs.Counts.{count_bytes}
@@ -8,14 +8,15 @@ use Rattle.merkle_tree_theory.specs.Gap.{Gap}
 use Rattle.merkle_wire.specs.Coming.{AscendIn, IsPageDigest}
 use Rattle.merkle_wire.specs.Gaps.{owned_gap}
 use Rattle.merkle_wire.specs.Messages.{front}
-use Rattle.merkle_wire.specs.Outlines.{Outline, rows_told, digests_told, page_told}
-use Rattle.merkle_wire.specs.Replies.{Part, outlines_bytes, parts_bytes, values_bytes}
+use Rattle.merkle_wire.specs.Outlines.{Outline, rows_told, digests_told, page_told, outline_bytes, page_bytes}
+use Rattle.merkle_wire.specs.Replies.{Part, outline_over_bytes, part_in_bytes, value_at_bytes, part_bytes}
 use Rattle.merkle_wire.specs.declared.gaps.OwnedGap.{OwnedGap}
 use Rattle.merkle_wire.specs.declared.message.Kind.{Kind}
 use Rattle.merkle_wire.specs.declared.message.Kind.TheVariants.{Root as root_kind, Outlines as outlines_kind, Nodes as nodes_kind, RowsAt as rows_at_kind, RowsIn as rows_in_kind}
 use Rattle.merkle_wire.specs.declared.question.Question.{Question}
 use Rattle.merkle_wire.specs.declared.question.Question.TheVariants.{Root, Outlines, Nodes, RowsAt, RowsIn}
-use Rattle.merkle_wire.specs.declared.wanted.Wanted.{Wanted}
+use Rattle.merkle_bytes.specs.Runs.{bound_key, run_bytes, row_behind, row_key}
+use Rattle.merkle_bytes.specs.Reading.{BeginsWithNo}
 
 -- the bytes say something of the first of what was asked for, of one at least, each where P holds of both
 pub record Says {X Y : Type 0} (P : X → Y → Type 0) (bytes : List (X × Y) → List ℕ) (asked : List X) (all : List ℕ) : Type 0 where
@@ -55,35 +56,51 @@ module _ {K V : Type 0} (cmp : K → K → Ordering) (is_key : K → Type 0) (is
 abbrev pub SaysRoot : List ℕ → Type 0
 SaysRoot all = (count : ℕ) × (digest : Option (List ℕ)) × (count < 2 ^ 64) × IsPageDigest digest × (all ≡ count_bytes count ++ option_bytes (λ d. d) digest)
 
--- the kind of replies to a question
-abbrev pub reply_kind : {K : Type 0} → Question K → Kind
-reply_kind (Root settings) = root_kind
-reply_kind (Outlines most gaps) = outlines_kind
-reply_kind (Nodes most gaps) = nodes_kind
-reply_kind (RowsAt keys) = rows_at_kind
-reply_kind (RowsIn gaps) = rows_in_kind
-
--- values at the first of the keys, each where there is one
-abbrev pub SaysValues : {K V : Type 0} → (V → Type 0) → (V → List ℕ) → List (Wanted K) → List ℕ → Type 0
-SaysValues is_value values = Says (λ w. IsOption is_value) (values_bytes values)
+-- a reply of a kind says what S holds of
+abbrev pub SaysSo : Kind → (List ℕ → Type 0) → List ℕ → Type 0
+SaysSo kind S reply = (all : List ℕ) × S all × (reply ≡ front kind ++ all)
 
 module _ {K V : Type 0} (cmp : K → K → Ordering) (is_key : K → Type 0) (is_value : V → Type 0) (encoding : K → List ℕ) (values : V → List ℕ) where
-  -- outlines of the pages over the first of the gaps
+  -- outlines of the pages over the first of the gaps, where digests of values have n bytes
   abbrev pub SaysOutlines : ℕ → Bool → List (OwnedGap K) → List ℕ → Type 0
-  SaysOutlines n with_pages = Says (λ g. IsOutlineIn cmp is_key is_value n with_pages (owned_gap g)) (outlines_bytes encoding values)
+  SaysOutlines n with_pages = Says (λ g. IsOutlineIn cmp is_key is_value n with_pages (owned_gap g)) (flat_map (outline_over_bytes encoding values))
 
   -- rows in the first of the gaps
   abbrev pub SaysParts : List (OwnedGap K) → List ℕ → Type 0
-  SaysParts = Says (λ g. IsPartIn cmp is_key is_value (owned_gap g)) (parts_bytes encoding values)
+  SaysParts = Says (λ g. IsPartIn cmp is_key is_value (owned_gap g)) (flat_map (part_in_bytes encoding values))
 
-  -- what can be said to a question, where digests of values have n bytes
-  abbrev pub SaysOf : ℕ → Question K → List ℕ → Type 0
-  SaysOf n (Root settings) = SaysRoot
-  SaysOf n (Outlines most gaps) = SaysOutlines n true gaps.items
-  SaysOf n (Nodes most gaps) = SaysOutlines n false gaps.items
-  SaysOf n (RowsAt keys) = SaysValues is_value values keys.items
-  SaysOf n (RowsIn gaps) = SaysParts gaps.items
-
-  -- the bytes are a reply to the question
+  -- the bytes are a reply to the question: how many rows there are and the digest of the root page; outlines; values, each where there is one; or rows
   abbrev pub IsFit : ℕ → Question K → List ℕ → Type 0
-  IsFit n question reply = (all : List ℕ) × SaysOf n question all × (reply ≡ front (reply_kind question) ++ all)
+  IsFit n (Root settings) reply = SaysSo root_kind SaysRoot reply
+  IsFit n (Outlines most gaps) reply = SaysSo outlines_kind (SaysOutlines n true gaps.items) reply
+  IsFit n (Nodes most gaps) reply = SaysSo nodes_kind (SaysOutlines n false gaps.items) reply
+  IsFit n (RowsAt keys) reply = SaysSo rows_at_kind (Says (λ w. IsOption is_value) (flat_map (value_at_bytes values)) keys.items) reply
+  IsFit n (RowsIn gaps) reply = SaysSo rows_in_kind (SaysParts gaps.items) reply
+
+-- not this many digests of n bytes
+abbrev pub NoDigests : ℕ → ℕ → List ℕ → Type 0
+NoDigests n count = BeginsWithNo (flat_map (λ d. d)) (λ digests. (length digests ≡ count) × AllByRecursion (λ d. length d ≡ n) digests)
+
+module _ {K : Type 0} (cmp : K → K → Ordering) (is_key : K → Type 0) (encoding : K → List ℕ) where
+  -- no page over a gap, after a key
+  abbrev pub NoPage : List ℕ → OwnedGap K → List ℕ → Type 0
+  NoPage last gap left = (digest : List ℕ) (keys : List K) (pages : List (Option (List ℕ))) (rest : List ℕ) → IsPageTold cmp is_key (owned_gap gap) digest keys pages
+      → left ≢ page_bytes encoding last digest keys pages ++ rest
+
+module _ {K V : Type 0} (cmp : K → K → Ordering) (is_key : K → Type 0) (is_value : V → Type 0) (encoding : K → List ℕ) (values : V → List ℕ) where
+  -- no rows in a gap, after a key
+  abbrev pub NoRows : List ℕ → OwnedGap K → List ℕ → Type 0
+  NoRows last gap = BeginsWithNo (run_bytes (row_behind encoding values) (row_key encoding) last) (AreRowsIn cmp is_key is_value (owned_gap gap))
+
+  -- no outline of the page over a gap
+  abbrev pub NoOutline : ℕ → Bool → OwnedGap K → List ℕ → Type 0
+  NoOutline n with_pages gap = BeginsWithNo (outline_bytes encoding values (bound_key encoding [] gap.after)) (IsOutlineIn cmp is_key is_value n with_pages (owned_gap gap))
+
+  -- no part of the rows in a gap
+  abbrev pub NoPart : OwnedGap K → List ℕ → Type 0
+  NoPart gap = BeginsWithNo (part_bytes encoding values (bound_key encoding [] gap.after)) (IsPartIn cmp is_key is_value (owned_gap gap))
+
+  -- nothing but parts of the rows in the first of the gaps
+  abbrev pub NoParts : List (OwnedGap K) → List ℕ → Type 0
+  NoParts gaps left = (told : List (OwnedGap K × Part K V)) (others : List (OwnedGap K)) → gaps ≡ map (λ t. t.0) told ++ others
+      → AllByRecursion (λ t. IsPartIn cmp is_key is_value (owned_gap t.0) t.1) told → left ≢ flat_map (part_in_bytes encoding values) told

@@ -1,5 +1,5 @@
 -- What a catch-up has found and is still to ask for.
-use Rattle.std.specs.Prelude.{◌≡◌, List, [], ◌∷◌, ◌++◌, Bool, not, cond}
+use Rattle.std.specs.Prelude.{◌≡◌, List, [], ◌∷◌, ◌++◌}
 use Rattle.merkle_tree_theory.specs.Gap.{Gap}
 
 -- the gaps of pages of the peer that this side doesn't have, right below those that were looked at last; the gaps of pages whose nodes it
@@ -14,12 +14,3 @@ pub record Found (K V : Type 0) : Type 0 where
 -- nothing is found
 abbrev pub nothing : {K V : Type 0} → Found K V
 nothing = record { below = []; nodes = []; wanted = []; whole = []; rows = [] }
-
-module _ {K V : Type 0} where
-  -- a row that came is added, unless the side has it
-  abbrev pub AddsRowUnless : Bool → K × V → Found K V → Found K V → Type 0
-  AddsRowUnless is_there row before after = after ≡ record before { rows = before.rows ++ cond (not is_there) (row ∷ []) [] }
-
-  -- so is a key
-  abbrev pub AddsKeyUnless : Bool → K → Found K V → Found K V → Type 0
-  AddsKeyUnless is_there key before after = after ≡ record before { wanted = before.wanted ++ cond (not is_there) (key ∷ []) [] }

@@ -27,10 +27,6 @@ digests_of tree = record { hasher = tree.hasher; base = tree.base; format = tree
 abbrev pub side_of : {K V H : Type 0} → Digests K H → List (K × V) → Side K V H
 side_of digests rows = record { hasher = digests.hasher; base = digests.base; format = digests.format; rows = rows }
 
--- so it is with those of a tree
-abbrev pub side_with : {K V H : Type 0} → State K H → List (K × V) → Side K V H
-side_with tree = side_of (digests_of tree)
-
 module _ {K V H : Type 0} (laws : Laws K V H) where
   -- the digests are those of the rows
   abbrev pub AreDigestsOf : Digests K H → List (K × V) → Type 0
@@ -39,12 +35,3 @@ module _ {K V H : Type 0} (laws : Laws K V H) where
   -- whatever rows the digests are those of, this holds of the side that has them
   abbrev pub ForRowsOf : Digests K H → (Side K V H → Type 0) → Type 0
   ForRowsOf own P = (rows : List (K × V)) → AreDigestsOf own rows → P (side_of own rows)
-
-module _ {K V H : Type 0} (laws : Laws K V H) (tree : State K H) where
-  -- the tree's map is the digests of the rows
-  abbrev pub HasDigestsOf : List (K × V) → Type 0
-  HasDigestsOf = AreDigestsOf laws (digests_of tree)
-
-  -- whatever rows the tree has the digests of, this holds of the side that has them
-  abbrev pub ForItsRows : (Side K V H → Type 0) → Type 0
-  ForItsRows = ForRowsOf laws (digests_of tree)

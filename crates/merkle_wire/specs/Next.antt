@@ -5,14 +5,13 @@ use Rattle.std.specs.List.Sorted.{IsPermutation}
 use Rattle.std.specs.declared.cmp.Ordering.{Ordering}
 use Rattle.key_order.specs.Map.{IsMap}
 use Rattle.key_order.specs.Order.{Same}
-use Rattle.merkle_replica.specs.Contents.{Contents, Side, side}
+use Rattle.merkle_replica.specs.Contents.{Side}
 use Rattle.merkle_replica.specs.Laws.{Laws}
 use Rattle.merkle_wire.specs.Asking.{IsAskedOf, AsksNothingMore}
 use Rattle.merkle_wire.specs.Coming.{IsAskedFor}
 use Rattle.merkle_wire.specs.Fit.{IsFit}
 use Rattle.merkle_wire.specs.Found.{Found}
-use Rattle.merkle_wire.specs.ItsRows.{Digests, ForRowsOf}
-use Rattle.merkle_wire.specs.Limits.{Allows, IsAbove, IsLeftAfter, IsOverLimit, no_limits}
+use Rattle.merkle_wire.specs.Limits.{Allows, IsAbove, IsLeftAfter, IsOverLimit}
 use Rattle.merkle_wire.specs.Questions.{question_bytes}
 use Rattle.merkle_wire.specs.Underway.{Underway, HasTakenReply}
 use Rattle.merkle_wire.specs.declared.catching_up.Next.{Next}
@@ -23,6 +22,7 @@ use Rattle.merkle_wire.specs.declared.question.Question.{Question}
 use Rattle.merkle_wire.specs.declared.question.Question.TheVariants.{Root, Outlines, Nodes, RowsAt, RowsIn}
 use Rattle.merkle_wire.specs.declared.session_error.SessionError.{SessionError}
 use Rattle.merkle_wire.specs.declared.session_error.SessionError.TheVariants.{Limit, Memory, TooManyRounds, Twice}
+use Rattle.merkle_wire.specs.ItsRows.{ForRowsOf, Digests}
 
 -- how many rounds of outlines there are with a question
 abbrev pub rounds_with : {K : Type 0} → ℕ → Question K → ℕ
@@ -51,10 +51,10 @@ module _ {K V : Type 0} (cmp : K → K → Ordering) where
   IsEnded rounds found Twice = AsksNothingMore found × HaveTwins found.rows
   IsEnded rounds found _ = ⊥
 
--- a catch-up that asks on has asked in 256 rounds at most
-abbrev pub AsksFew : {K V : Type 0} → Next K V → Type 0
-AsksFew (Ask session message) = session.rounds ≤ 256
-AsksFew (Came rows) = ⊤
+-- of a catch-up that asks on this holds
+abbrev pub IfAsks : {K V : Type 0} → (Underway K V → Type 0) → Next K V → Type 0
+IfAsks Holds (Ask session message) = Holds session
+IfAsks Holds (Came rows) = ⊤
 
 -- the rows came, in ascending order
 abbrev pub IsCame : {K V : Type 0} → (K → K → Ordering) → List (K × V) → Next K V → Type 0
@@ -88,10 +88,6 @@ module _ {K V H : Type 0} (laws : Laws K V H) (n : ℕ) (encoding : K → List �
   IsNext local before reply next = (found : Found K V) × (again : Option (Question K))
       × HasTakenReply laws n encoding values local before.asked reply before.found found again × AsksOrGoesOn laws.cmp encoding again before.rounds found next
 
-  -- a catch-up of the replica takes it so
-  abbrev pub Takes : Contents K V H → Underway K V → List ℕ → Next K V → Type 0
-  Takes replica before reply next = IsNext (side replica) before reply next
-
   -- it is not taken, where bytes of keys and values are those of which these hold: memory ran out, it is no reply to what was asked, or it goes
   -- over a limit; else it could be taken, but the catch-up doesn't go on
   abbrev pub IsStopped : (K → Type 0) → (V → Type 0) → Side K V H → Underway K V → List ℕ → SessionError → Type 0
@@ -105,14 +101,10 @@ module _ {K V H : Type 0} (laws : Laws K V H) (n : ℕ) (encoding : K → List �
   IsStopped is_key is_value local before reply (Limit limit) = IsOverLimit (length reply) before.left (Limit limit)
   IsStopped is_key is_value local before reply _ = ¬ IsFit laws.cmp is_key is_value encoding values n before.asked reply
 
-module _ {K V H : Type 0} (laws : Laws K V H) (n : ℕ) (encoding : K → List ℕ) (values : V → List ℕ) (own : Digests K H) where
-  -- a catch-up of a side with these digests takes the reply so, whatever rows it has
-  abbrev pub IsNextOf : Underway K V → List ℕ → Next K V → Type 0
-  IsNextOf before reply next = ForRowsOf laws own (λ local. IsNext laws n encoding values local before reply next)
-
-  -- so it is where it doesn't take it
-  abbrev pub IsStoppedOf : (K → Type 0) → (V → Type 0) → Underway K V → List ℕ → SessionError → Type 0
-  IsStoppedOf is_key is_value before reply error = ForRowsOf laws own (λ local. IsStopped laws n encoding values is_key is_value local before reply error)
+-- so it is with a catch-up of a side with these digests, whatever rows it has
+abbrev pub IsStoppedOf : {K V H : Type 0} → Laws K V H → ℕ → (K → List ℕ) → (V → List ℕ) → Digests K H → (K → Type 0) → (V → Type 0) → Underway K V → List ℕ → SessionError → Type 0
+IsStoppedOf laws n encoding values own is_key is_value before reply error =
+    ForRowsOf laws own (λ local. IsStopped laws n encoding values is_key is_value local before reply error)
 
 -- this is left of the limits, and they allow the rows that were found
 abbrev pub HasLeft : {K V : Type 0} → Limits → Next K V → Type 0
@@ -122,11 +114,6 @@ HasLeft left (Came rows) = Allows left.rows (length rows.items)
 -- a reply of this many bytes is taken off the limits, and the rows that were found are within them
 abbrev pub StaysWithin : {K V : Type 0} → Underway K V → ℕ → Next K V → Type 0
 StaysWithin before reply next = (left : Limits) × IsLeftAfter reply before.left left × HasLeft left next
-
--- a catch-up that asks on has no limits
-abbrev pub IsUnlimited : {K V : Type 0} → Next K V → Type 0
-IsUnlimited (Ask session message) = session.left ≡ no_limits
-IsUnlimited (Came rows) = ⊤
 
 module _ {K V : Type 0} (cmp : K → K → Ordering) where
   -- the rows that are found besides those that were found before are at keys that were asked for

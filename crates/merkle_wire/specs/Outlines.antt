@@ -1,12 +1,14 @@
 -- What the answering side tells of a page, and its bytes.
-use Rattle.std.specs.Prelude.{◌≡◌, ℕ, List, [], ◌∷◌, ◌++◌, map, flat_map, Bool, true, Option, Some, None, ⊤}
+use Rattle.std.specs.Prelude.{◌≡◌, ℕ, List, [], ◌∷◌, ◌++◌, map, flat_map, Bool, true, Option, Some, None, ⊤, ◌⊎◌}
 use Rattle.std.specs.declared.cmp.Ordering.{Ordering}
 use Rattle.merkle_bytes.specs.Keys.{key_behind}
 use Rattle.merkle_bytes.specs.Options.{option_bytes}
 use Rattle.merkle_bytes.specs.Runs.{run_bytes, row_behind, row_key}
 use Rattle.merkle_digest.specs.SipHash.{siphash128, zero_key}
 use Rattle.merkle_tree_theory.specs.Outline.{Item, of_node, of_page}
-use Rattle.merkle_wire.specs.RowsAt.{AreRowsAt}
+use Rattle.key_order.specs.Order.{Same}
+use Rattle.key_order.specs.Map.{get}
+use denote.Ref.{Bor}
 
 -- rows; keys with the digests of their values; or a page with others below it: the digest of its nodes, their keys, and the digest of the
 -- page before each of them and of that after the last
@@ -46,10 +48,21 @@ digest_of_all ds = siphash128 zero_key (flat_map (λ d. d) ds)
 abbrev pub nodes_digest : {K : Type 0} → List (K × List ℕ) → List ℕ
 nodes_digest nodes = digest_of_all (map (λ p. p.1) nodes)
 
+-- nodes that are lent, each as its key and the digest of its value
+abbrev pub node_pairs : {K : Type 0} → List (Bor K × Bor (List ℕ)) → List (K × List ℕ)
+node_pairs = map (λ n. (n.0.now, n.1.now))
+
 module _ {K V : Type 0} (cmp : K → K → Ordering) (rows : List (K × V)) where
+  -- `found` has the row at each of the keys, one after the other, but for keys that aren't there
+  abbrev pub AreRowsAt : List K → List (K × V) → Type 0
+  AreRowsAt [] found = found ≡ []
+  AreRowsAt (k ∷ ks) found =
+      ((get cmp rows k ≡ None) × AreRowsAt ks found)
+      ⊎ ((row : K × V) × (rest : List (K × V)) × Same cmp row.0 k × (get cmp rows k ≡ Some row.1) × AreRowsAt ks rest × (found ≡ row ∷ rest))
+
   -- the nodes, as rows or as digests
   abbrev pub AreNodes : List (K × List ℕ) → Outline K V → Type 0
-  AreNodes nodes (rows_told rs) = AreRowsAt cmp rows (keys_among nodes) rs
+  AreNodes nodes (rows_told rs) = AreRowsAt (keys_among nodes) rs
   AreNodes nodes (digests_told same) = same ≡ nodes
   AreNodes nodes (page_told digest keys pages) = ⊥
 
@@ -66,13 +79,21 @@ module _ {K : Type 0} (encoding : K → List ℕ) where
   abbrev pub keys_told : List ℕ → List K → List ℕ
   keys_told = run_bytes (λ last k. key_behind last (encoding k)) (λ last k. encoding k)
 
+  -- the bytes of nodes, after a key: the keys, and then the digests
+  abbrev pub nodes_bytes : List ℕ → List (K × List ℕ) → List ℕ
+  nodes_bytes last nodes = keys_told last (keys_among nodes) ++ flat_map (λ n. n.1) nodes
+
 -- the digests of pages, each where there is one
 abbrev pub pages_bytes : List (Option (List ℕ)) → List ℕ
 pages_bytes = flat_map (option_bytes (λ d. d))
+
+-- the bytes of a page, after a key: the digest of its nodes, their keys, and the digests of the pages beside them
+abbrev pub page_bytes : {K : Type 0} → (K → List ℕ) → List ℕ → List ℕ → List K → List (Option (List ℕ)) → List ℕ
+page_bytes encoding last digest keys pages = digest ++ (keys_told encoding last keys ++ pages_bytes pages)
 
 module _ {K V : Type 0} (encoding : K → List ℕ) (values : V → List ℕ) where
   -- the bytes of what is told, after a key
   abbrev pub outline_bytes : List ℕ → Outline K V → List ℕ
   outline_bytes last (rows_told rows) = 0 ∷ run_bytes (row_behind encoding values) (row_key encoding) last rows
-  outline_bytes last (digests_told nodes) = 1 ∷ (keys_told encoding last (keys_among nodes) ++ flat_map (λ p. p.1) nodes)
-  outline_bytes last (page_told digest keys pages) = 2 ∷ (digest ++ (keys_told encoding last keys ++ pages_bytes pages))
+  outline_bytes last (digests_told nodes) = 1 ∷ nodes_bytes encoding last nodes
+  outline_bytes last (page_told digest keys pages) = 2 ∷ page_bytes encoding last digest keys pages

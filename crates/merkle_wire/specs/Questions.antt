@@ -1,42 +1,24 @@
 -- What a message can ask for, as bytes.
-use Rattle.std.specs.Prelude.{◌≡◌, ◌≢◌, ℕ, ◌<◌, ◌^◌, List, [], ◌++◌}
+use Rattle.std.specs.Prelude.{◌≡◌, ◌≢◌, ℕ, ◌<◌, ◌^◌, List, [], ◌++◌, ⊤}
 use Rattle.std.specs.List.{AllByRecursion}
 use Rattle.merkle_bytes.specs.Counts.{count_bytes}
 use Rattle.merkle_bytes.specs.Keys.{key_behind}
-use Rattle.merkle_bytes.specs.Refusals.{IsMalformed}
 use Rattle.merkle_bytes.specs.Runs.{run_bytes}
-use Rattle.merkle_bytes.specs.declared.error.ReadError.{ReadError}
-use Rattle.merkle_bytes.specs.declared.reader.Reader.{Reader}
-use Rattle.merkle_replica.specs.Contents.{Contents}
-use Rattle.merkle_tree_theory.specs.State.{State}
 use Rattle.merkle_wire.specs.Gaps.{HasKeyBounds, owned_gap, gap_behind, gap_key}
-use Rattle.merkle_wire.specs.ItsRows.{Digests, digests_of}
+use Rattle.merkle_wire.specs.ItsRows.{Digests}
 use Rattle.merkle_wire.specs.Messages.{front}
 use Rattle.merkle_wire.specs.Settings.{AreSettings, AreSettingsBy, settings_bytes}
 use Rattle.merkle_wire.specs.declared.gaps.OwnedGap.{OwnedGap}
-use Rattle.merkle_wire.specs.declared.message.Kind.{Kind}
 use Rattle.merkle_wire.specs.declared.message.Kind.TheVariants.{AskRoot, AskOutlines, AskNodes, AskRowsAt, AskRowsIn}
 use Rattle.merkle_wire.specs.declared.question.Question.{Question}
 use Rattle.merkle_wire.specs.declared.question.Question.TheVariants.{Root, Outlines, Nodes, RowsAt, RowsIn}
 use Rattle.merkle_wire.specs.declared.settings.Settings.{Settings}
 use Rattle.merkle_wire.specs.declared.wanted.Wanted.{Wanted}
 
--- the bytes are no list of such entries
-abbrev pub IsNoRun : {X S : Type 0} → (S → X → List ℕ) → (S → X → S) → (X → Type 0) → S → List ℕ → Type 0
-IsNoRun {X} bytes next is_entry s left = (list : List X) → AllByRecursion is_entry list → left ≢ run_bytes bytes next s list
-
--- unless memory was the reason, the reader stood before the bytes of no list of such entries
-abbrev pub FindsNoRun : {X S : Type 0} → (S → X → List ℕ) → (S → X → S) → (X → Type 0) → S → Reader → ReadError → Type 0
-FindsNoRun bytes next is_entry s reader error = IsMalformed error → IsNoRun bytes next is_entry s reader.left.now
-
 module _ {K : Type 0} (encoding : K → List ℕ) where
   -- gaps, each after the last key of the one before
   abbrev pub gaps_bytes : List (OwnedGap K) → List ℕ
   gaps_bytes = run_bytes (λ last g. gap_behind encoding last (owned_gap g)) (λ last g. gap_key encoding last (owned_gap g)) []
-
-  -- a message of a kind, with a count and gaps
-  abbrev pub counted_gaps_bytes : Kind → ℕ → List (OwnedGap K) → List ℕ
-  counted_gaps_bytes kind most gaps = (front kind ++ count_bytes most) ++ gaps_bytes gaps
 
   -- keys, each after the one before
   abbrev pub keys_bytes : List ℕ → List (Wanted K) → List ℕ
@@ -68,14 +50,14 @@ module _ {K : Type 0} (encoding : K → List ℕ) (is_value : K → Type 0) wher
   abbrev pub AsksNothing : List ℕ → Type 0
   AsksNothing message = (question : Question K) → IsQuestion is_value question → message ≢ question_bytes encoding question
 
+-- where the question is for the root, this holds of its settings
+abbrev pub IfRoot : {K : Type 0} → (Settings K → Type 0) → Question K → Type 0
+IfRoot Holds (Root settings) = Holds settings
+IfRoot Holds (Outlines most gaps) = ⊤
+IfRoot Holds (Nodes most gaps) = ⊤
+IfRoot Holds (RowsAt keys) = ⊤
+IfRoot Holds (RowsIn gaps) = ⊤
+
 -- the question is for the root, with the settings of a side whose digests have n bytes
-abbrev pub AsksForRootBy : {K H : Type 0} → (K → List ℕ) → ℕ → Digests K H → Question K → Type 0
-AsksForRootBy {K} digest_of n own question = (settings : Settings K) × (question ≡ Root settings) × AreSettingsBy digest_of n own settings
-
--- so it is with those of a tree
-abbrev pub AsksForRoot : {K H : Type 0} → (K → List ℕ) → ℕ → State K H → Question K → Type 0
-AsksForRoot digest_of n tree = AsksForRootBy digest_of n (digests_of tree)
-
--- it is for the root, with the settings of a replica's tree by its own hasher
-abbrev pub AsksForOwnRoot : {K V H : Type 0} → (H → K → List ℕ) → ℕ → Contents K V H → Question K → Type 0
-AsksForOwnRoot digest_of n replica question = AsksForRoot (digest_of replica.tree.hasher) n replica.tree question
+abbrev pub AsksForRoot : {K H : Type 0} → (K → List ℕ) → ℕ → Digests K H → Question K → Type 0
+AsksForRoot {K} digest_of n own question = (settings : Settings K) × (question ≡ Root settings) × AreSettingsBy digest_of n own settings

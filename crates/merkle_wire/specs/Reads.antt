@@ -1,28 +1,22 @@
--- What is read of a reply, step by step.
-use Rattle.std.specs.Prelude.{◌≡◌, ◌≢◌, ℕ, ◌≤◌, Bool, List, [], ◌∷◌, ◌++◌, length, map, flat_map, take, Option, None}
+-- What is read of a reply, and what is made of it, step by step.
+use Rattle.std.specs.Prelude.{◌≡◌, ◌≢◌, ℕ, ◌≤◌, List, [], ◌∷◌, ◌++◌, length, map, flat_map, take, Option, None}
 use Rattle.std.specs.Global.{Vec}
 use Rattle.std.specs.List.{AllByRecursion}
 use Rattle.std.specs.declared.cmp.Ordering.{Ordering}
 use denote.Ref.{Bor}
 use Rattle.key_order.specs.Map.{last_key}
-use Rattle.merkle_bytes.specs.Options.{option_bytes}
 use Rattle.merkle_bytes.specs.Reading.{Reads}
 use Rattle.merkle_bytes.specs.Runs.{bound_key}
 use Rattle.merkle_bytes.specs.declared.reader.Reader.{Reader}
-use Rattle.merkle_tree_theory.specs.Gap.{SameGap, part_behind}
 use Rattle.merkle_wire.specs.Coming.{AscendIn, LiesIn}
-use Rattle.merkle_wire.specs.Faults.{IsRefusedFor}
-use Rattle.merkle_wire.specs.Fit.{IsFit, SaysOutlines, SaysParts, SaysValues}
 use Rattle.merkle_wire.specs.Gaps.{owned_gap}
 use Rattle.merkle_wire.specs.Messages.{front}
-use Rattle.merkle_wire.specs.Outlines.{Outline, rows_told, digests_told, page_told, keys_among, keys_told}
-use Rattle.merkle_wire.specs.Replies.{Part, outlines_bytes, part_bytes, parts_bytes, root_reply_bytes, values_bytes}
-use Rattle.merkle_wire.specs.Taking.{AreBehind, IsBehind, value_row}
+use Rattle.merkle_wire.specs.Outlines.{Outline, rows_told, digests_told, page_told}
+use Rattle.merkle_wire.specs.Replies.{Part, part_bytes, root_reply_bytes, outline_over_bytes, part_in_bytes, value_at_bytes}
+use Rattle.merkle_wire.specs.Taking.{AreBehind, IsBehind, value_row, AddsRows, AreTaken, IsRootTaken, AreNewGaps, IsNewGap}
 use Rattle.merkle_wire.specs.Underway.{AsksAgain}
-use Rattle.merkle_wire.specs.Unfit.{NoNodes, NoOutline, NoPart, NoParts, NoRows, SaysNot}
 use Rattle.merkle_wire.specs.declared.coming.OutlineRead.{OutlineRead}
 use Rattle.merkle_wire.specs.declared.coming.OutlineRead.TheVariants.{Rows, Digests, Page}
-use Rattle.merkle_wire.specs.declared.coming.PageRead.{PageRead}
 use Rattle.merkle_wire.specs.declared.gaps.OwnedGap.{OwnedGap}
 use Rattle.merkle_wire.specs.declared.message.Kind.{Kind}
 use Rattle.merkle_wire.specs.declared.message.Kind.TheVariants.{Outlines as outlines_kind, Nodes as nodes_kind, RowsAt as rows_at_kind, RowsIn as rows_in_kind}
@@ -30,17 +24,17 @@ use Rattle.merkle_wire.specs.declared.question.Question.{Question}
 use Rattle.merkle_wire.specs.declared.question.Question.TheVariants as ask
 use Rattle.merkle_wire.specs.declared.replies.Reply.{Reply}
 use Rattle.merkle_wire.specs.declared.replies.Reply.TheVariants as came
-use Rattle.merkle_wire.specs.declared.session_error.SessionError.{SessionError}
 use Rattle.merkle_wire.specs.declared.wanted.Wanted.{Wanted}
+use Rattle.merkle_replica.specs.Contents.{Side}
+use Rattle.merkle_replica.specs.Laws.{Laws}
+use Rattle.merkle_tree_theory.specs.Gap.{Gap, SameGap, part_behind}
+use Rattle.merkle_wire.specs.Found.{Found}
+use Rattle.merkle_wire.specs.declared.coming.PageRead.{PageRead}
 
 module _ {K : Type 0} where
   -- nodes that were read, each as its key and the digest of its value
   abbrev pub nodes_read : List (Wanted K × Bor (List ℕ)) → List (K × List ℕ)
   nodes_read = map (λ n. (n.0.key, n.1.now))
-
-  -- the bytes of nodes, after a key: the keys, and then the digests
-  abbrev pub nodes_bytes : (K → List ℕ) → List ℕ → List (K × List ℕ) → List ℕ
-  nodes_bytes encoding last nodes = keys_told encoding last (keys_among nodes) ++ flat_map (λ d. d.1) nodes
 
   -- the digests of the pages before nodes and after the last
   abbrev pub digests_beside : List (Option (List ℕ) × Wanted K) → Option (List ℕ) → List (Option (List ℕ))
@@ -50,16 +44,9 @@ module _ {K : Type 0} where
   abbrev pub below_keys : List (Option (List ℕ) × Wanted K) → List K
   below_keys = map (λ b. b.1.key)
 
-  -- so it is for a page that was read
-  abbrev pub page_digests : PageRead K → List (Option (List ℕ))
-  page_digests page = digests_beside page.below.items page.last
-
-  abbrev pub page_keys : PageRead K → List K
-  page_keys page = below_keys page.below.items
-
   -- the page that was read, as it was told
   abbrev pub page_read : {V : Type 0} → PageRead K → Outline K V
-  page_read page = page_told page.digest (page_keys page) (page_digests page)
+  page_read page = page_told page.digest (below_keys page.below.items) (digests_beside page.below.items page.last)
 
 module _ {K V : Type 0} where
   -- what was read of the page over a gap, as it was told
@@ -73,14 +60,10 @@ module _ {K V : Type 0} where
   outlines_read = map (λ t. (t.0, outline_read t.1))
 
 module _ {K V : Type 0} (values : V → List ℕ) where
-  -- the value at a key was read, where there is one, and the row added
-  abbrev pub ReadsValue : Wanted K → Reader → Reader → List (K × V) → List (K × V) → Type 0
-  ReadsValue wanted old new before after = (value : Option V) × Reads old (option_bytes values value) new × (after ≡ before ++ value_row (wanted, value))
-
   -- of a reply that tells values at the first keys, at one at least, these rows were read; `left` are the other keys
   abbrev pub ReadsValues : List (Wanted K) → List ℕ → List (K × V) → List (Wanted K) → Type 0
   ReadsValues keys reply rows left = (told : List (Wanted K × Option V))
-      × (reply ≡ front rows_at_kind ++ values_bytes values told) × (told ≢ []) × (keys ≡ map (λ t. t.0) told ++ left)
+      × (reply ≡ front rows_at_kind ++ flat_map (value_at_bytes values) told) × (told ≢ []) × (keys ≡ map (λ t. t.0) told ++ left)
       × (rows ≡ flat_map value_row told)
 
 module _ {K V : Type 0} (cmp : K → K → Ordering) where
@@ -101,7 +84,7 @@ module _ {K V : Type 0} (cmp : K → K → Ordering) (encoding : K → List ℕ)
   abbrev pub ReadsPartsOf : List (OwnedGap K) → Reader → Reader → List (K × V) → List (K × V) → List (OwnedGap K) → List (OwnedGap K) → ℕ → Type 0
   ReadsPartsOf gaps old new before after left left' count = (count ≤ length gaps)
       × ((told : List (OwnedGap K × Part K V)) × (behind : List (OwnedGap K)) × (map (λ t. t.0) told ≡ take count gaps)
-      × Reads old (parts_bytes encoding values told) new
+      × Reads old (flat_map (part_in_bytes encoding values) told) new
       × AllByRecursion (λ t. AscendIn cmp (owned_gap t.0) (map (λ r. r.0) t.1.rows)) told
       × AreBehind cmp told behind × (left' ≡ left ++ behind) × (after ≡ before ++ flat_map (λ t. t.1.rows) told))
 
@@ -109,13 +92,13 @@ module _ {K V : Type 0} (cmp : K → K → Ordering) (encoding : K → List ℕ)
   -- gap, and the others
   abbrev pub ReadsParts : List (OwnedGap K) → List ℕ → List (K × V) → List (OwnedGap K) → Type 0
   ReadsParts gaps reply rows left = (told : List (OwnedGap K × Part K V)) × (behind : List (OwnedGap K)) × (rest : List (OwnedGap K))
-      × (reply ≡ front rows_in_kind ++ parts_bytes encoding values told) × (told ≢ []) × (gaps ≡ map (λ t. t.0) told ++ rest)
+      × (reply ≡ front rows_in_kind ++ flat_map (part_in_bytes encoding values) told) × (told ≢ []) × (gaps ≡ map (λ t. t.0) told ++ rest)
       × AllByRecursion (λ t. AscendIn cmp (owned_gap t.0) (map (λ r. r.0) t.1.rows)) told × AreBehind cmp told behind × (left ≡ behind ++ rest)
       × (rows ≡ flat_map (λ t. t.1.rows) told)
 
   -- a reply of a kind tells outlines of the first gaps, of one at least, that lie in these; `left` are the others
   abbrev pub ReadsOutlines : ℕ → Kind → List (OwnedGap K) → List ℕ → List (OwnedGap K × Outline K V) → List (OwnedGap K) → Type 0
-  ReadsOutlines n kind gaps reply told left = (reply ≡ front kind ++ outlines_bytes encoding values told) × (told ≢ [])
+  ReadsOutlines n kind gaps reply told left = (reply ≡ front kind ++ flat_map (outline_over_bytes encoding values) told) × (told ≢ [])
       × (gaps ≡ map (λ t. t.0) told ++ left) × AllByRecursion (λ t. LiesIn cmp n (owned_gap t.0) t.1) told
 
   -- a reply to a question was read, after which this question is to be asked again, or none
@@ -131,42 +114,18 @@ module _ {K V : Type 0} (cmp : K → K → Ordering) (encoding : K → List ℕ)
   IsReplyRead n (ask.RowsIn gaps) reply read again = (rows : Vec (K × V)) × (left : List (OwnedGap K))
       × (read ≡ came.Rows rows) × ReadsParts gaps.items reply rows.items left × AsksAgain ask.RowsIn left again
 
-module _ {K : Type 0} (cmp : K → K → Ordering) (is_key : K → Type 0) (encoding : K → List ℕ) where
-  -- a reply is refused when out of memory, or where no nodes in the gap stood at the front, after a key
-  abbrev pub RefusesNodes : ℕ → List ℕ → OwnedGap K → Reader → SessionError → Type 0
-  RefusesNodes n last gap reader = IsRefusedFor (NoNodes cmp is_key encoding n last gap reader.left.now)
+module _ {K V H : Type 0} (laws : Laws K V H) (local : Side K V H) where
+  -- the gap is added where a page with this digest fills it that the side doesn't have
+  abbrev pub AddsBelow : Gap K → Option (List ℕ) → Found K V → Found K V → Type 0
+  AddsBelow gap page before after = (gaps : List (Gap K)) × IsNewGap laws local gap page gaps × (after ≡ record before { below = before.below ++ gaps })
 
-module _ {K V : Type 0} (is_value : V → Type 0) (values : V → List ℕ) where
-  -- a reply to keys is refused when out of memory, or where it says no values at the first of them
-  abbrev pub RefusesValues : Vec (Wanted K) → List ℕ → SessionError → Type 0
-  RefusesValues keys reply = IsRefusedFor (SaysNot rows_at_kind (SaysValues is_value values keys.items) reply)
+  -- so are those into which the keys of a page part a gap
+  abbrev pub AddsGapsBeside : Gap K → List (Option (List ℕ) × Wanted K) → Option (List ℕ) → Found K V → Found K V → Type 0
+  AddsGapsBeside gap below last before after = (gaps : List (Gap K)) × AreNewGaps laws local gap (below_keys below) (digests_beside below last) gaps
+      × (after ≡ record before { below = before.below ++ gaps })
 
-module _ {K V : Type 0} (cmp : K → K → Ordering) (is_key : K → Type 0) (is_value : V → Type 0) (encoding : K → List ℕ) (values : V → List ℕ) where
-  -- a reply is refused when out of memory, or where no rows in the gap stood at the front, after a key
-  abbrev pub RefusesRows : List ℕ → OwnedGap K → Reader → SessionError → Type 0
-  RefusesRows last gap reader = IsRefusedFor (NoRows cmp is_key is_value encoding values last gap reader.left.now)
-
-  -- so it is where no part of the rows in the gap stood there
-  abbrev pub RefusesPart : OwnedGap K → Reader → SessionError → Type 0
-  RefusesPart gap reader = IsRefusedFor (NoPart cmp is_key is_value encoding values gap reader.left.now)
-
-  -- or something else than parts of the rows in the first of the gaps
-  abbrev pub RefusesPartsOf : List (OwnedGap K) → Reader → SessionError → Type 0
-  RefusesPartsOf gaps reader = IsRefusedFor (NoParts cmp is_key is_value encoding values gaps reader.left.now)
-
-  -- a reply to gaps of which all rows are wanted is refused so where it says no parts
-  abbrev pub RefusesParts : Vec (OwnedGap K) → List ℕ → SessionError → Type 0
-  RefusesParts gaps reply = IsRefusedFor (SaysNot rows_in_kind (SaysParts cmp is_key is_value encoding values gaps.items) reply)
-
-  -- a reply is refused so where no outline of the page over the gap stood at the front
-  abbrev pub RefusesOutline : ℕ → Bool → OwnedGap K → Reader → SessionError → Type 0
-  RefusesOutline n with_pages gap reader = IsRefusedFor (NoOutline cmp is_key is_value encoding values n with_pages gap reader.left.now)
-
-  -- a reply of a kind is refused so where it says no outlines
-  abbrev pub RefusesOutlines : ℕ → Bool → Kind → Vec (OwnedGap K) → List ℕ → SessionError → Type 0
-  RefusesOutlines n with_pages kind gaps reply =
-      IsRefusedFor (SaysNot kind (SaysOutlines cmp is_key is_value encoding values n with_pages gaps.items) reply)
-
-  -- and any reply where it says nothing that can be said to the question
-  abbrev pub RefusesReply : ℕ → Question K → List ℕ → SessionError → Type 0
-  RefusesReply n question reply = IsRefusedFor (¬ IsFit cmp is_key is_value encoding values n question reply)
+  -- what a reply told is taken: what the side doesn't have is added to what was found
+  abbrev pub IsReplyTaken : Reply K V → Found K V → Found K V → Type 0
+  IsReplyTaken (came.Root count digest) before after = IsRootTaken laws local digest before after
+  IsReplyTaken (came.Outlines told) before after = AreTaken laws local (outlines_read told.items) before after
+  IsReplyTaken (came.Rows rows) before after = AddsRows laws local rows.items before after

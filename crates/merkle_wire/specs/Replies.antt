@@ -7,23 +7,22 @@ use Rattle.key_order.specs.Map.{get}
 use Rattle.merkle_bytes.specs.Counts.{count_bytes}
 use Rattle.merkle_bytes.specs.Options.{option_bytes}
 use Rattle.merkle_bytes.specs.Runs.{run_bytes, entries_bytes, row_behind, row_key, bound_key}
-use Rattle.merkle_replica.specs.Contents.{Contents}
 use Rattle.merkle_replica.specs.Laws.{Laws}
 use Rattle.merkle_tree_theory.specs.Gap.{pairs_within}
 use Rattle.merkle_tree_theory.specs.Outline.{Item, of_node, of_page, outline_over, whole_item}
 use Rattle.merkle_tree_theory.specs.State.{State}
-use Rattle.merkle_wire.specs.Faults.{AreOtherSettings}
 use Rattle.merkle_wire.specs.Gaps.{owned_gap}
 use Rattle.merkle_wire.specs.Messages.{front}
 use Rattle.merkle_wire.specs.Outlines.{Outline, IsTold, outline_bytes}
-use Rattle.merkle_wire.specs.Questions.{question_bytes}
-use Rattle.merkle_wire.specs.Settings.{AreSettingsOf}
-use Rattle.merkle_wire.specs.declared.answering.AnswerError.{AnswerError}
+use Rattle.merkle_wire.specs.Questions.{question_bytes, IfRoot}
 use Rattle.merkle_wire.specs.declared.gaps.OwnedGap.{OwnedGap}
 use Rattle.merkle_wire.specs.declared.message.Kind.TheVariants.{Root as root_kind, Outlines as outlines_kind, Nodes as nodes_kind, RowsAt as rows_at_kind, RowsIn as rows_in_kind}
 use Rattle.merkle_wire.specs.declared.question.Question.{Question}
 use Rattle.merkle_wire.specs.declared.question.Question.TheVariants.{Root, Outlines, Nodes, RowsAt, RowsIn}
 use Rattle.merkle_wire.specs.declared.wanted.Wanted.{Wanted}
+use Rattle.merkle_wire.specs.ItsRows.{digests_of}
+use Rattle.merkle_wire.specs.Settings.{AreSettingsBy, AreOwnSettings}
+use Rattle.merkle_wire.specs.declared.message.Kind.{Kind}
 
 -- something is told of the first of what was asked for, of one at least, each where P holds of both
 pub record TellsFirst {X Y : Type 0} (P : X → Y → Type 0) (asked : List X) (told : List (X × Y)) : Type 0 where
@@ -31,6 +30,10 @@ pub record TellsFirst {X Y : Type 0} (P : X → Y → Type 0) (asked : List X) (
   pub begins : asked ≡ map (λ t. t.0) told ++ left
   pub some : asked ≢ [] → told ≢ []
   pub each : AllByRecursion (λ t. P t.0 t.1) told
+
+-- a reply of a kind tells this of the first of what was asked for, as the bytes of its entries
+abbrev pub AnswersFirst : {X Y : Type 0} → Kind → (X × Y → List ℕ) → (X → Y → Type 0) → List X → List ℕ → Type 0
+AnswersFirst {X} {Y} kind bytes P asked reply = (told : List (X × Y)) × TellsFirst P asked told × (reply ≡ front kind ++ flat_map bytes told)
 
 -- each entry fits after the bytes that stand before it, and those before the first begin so
 abbrev pub EachFits : {X : Type 0} → (X → List ℕ) → (List ℕ → X → Type 0) → List ℕ → List X → Type 0
@@ -54,23 +57,28 @@ pub record TellsWhatFits {X Y : Type 0} (bytes : X × Y → List ℕ) (Fits : Li
   pub each : EachFits bytes Fits begun told
   pub ends : (left ≡ []) ⊎ IsFull most reply
 
+-- so it is where an entry fits as long as there is room for it
+abbrev pub EntriesFit : {X Y : Type 0} → (X × Y → List ℕ) → ℕ → List X → List ℕ → List ℕ → Type 0
+EntriesFit bytes most = TellsWhatFits bytes (λ bytes t. IsNotFull most bytes) most
+
 -- the rows in a gap that are told: the first of them, and whether they are all
 pub record Part (K V : Type 0) : Type 0 where
   pub rows : List (K × V)
   pub whole : Bool
 
 module _ {K V : Type 0} (cmp : K → K → Ordering) (rows : List (K × V)) where
+  -- the value is that at the key, where there is one
+  abbrev pub IsValueFor : Wanted K → Option V → Type 0
+  IsValueFor wanted value = value ≡ get cmp rows wanted.key
+
   -- the part begins the rows in the gap: all of them, or some
   abbrev pub IsPartOf : OwnedGap K → Part K V → Type 0
   IsPartOf gap part = (more : List (K × V)) × (pairs_within cmp (owned_gap gap) rows ≡ part.rows ++ more) × (part.whole ≡ true → more ≡ []) × (part.whole ≡ false → part.rows ≢ [])
 
 module _ {K V : Type 0} (encoding : K → List ℕ) (values : V → List ℕ) where
-  -- outlines, each after the bound that the keys of its gap are above
+  -- an outline, after the bound that the keys of its gap are above
   abbrev pub outline_over_bytes : OwnedGap K × Outline K V → List ℕ
   outline_over_bytes t = outline_bytes encoding values (bound_key encoding [] t.0.after) t.1
-
-  abbrev pub outlines_bytes : List (OwnedGap K × Outline K V) → List ℕ
-  outlines_bytes = flat_map outline_over_bytes
 
   -- rows after a key
   abbrev pub rows_bytes : List ℕ → List (K × V) → List ℕ
@@ -80,11 +88,9 @@ module _ {K V : Type 0} (encoding : K → List ℕ) (values : V → List ℕ) wh
   abbrev pub part_bytes : List ℕ → Part K V → List ℕ
   part_bytes last part = run_bytes (row_behind encoding values) (row_key encoding) last part.rows ++ cond part.whole 1 0 ∷ []
 
+  -- a part, after the bound that the keys of its gap are above
   abbrev pub part_in_bytes : OwnedGap K × Part K V → List ℕ
   part_in_bytes t = part_bytes (bound_key encoding [] t.0.after) t.1
-
-  abbrev pub parts_bytes : List (OwnedGap K × Part K V) → List ℕ
-  parts_bytes = flat_map part_in_bytes
 
   -- how many bytes stand before a part and in these rows of it; its count and its flag don't count
   abbrev pub length_with_rows : List ℕ → OwnedGap K → List (K × V) → ℕ
@@ -95,32 +101,23 @@ module _ {K V : Type 0} (encoding : K → List ℕ) (values : V → List ℕ) wh
   RowsFit most bytes t = ((i : ℕ) → i ≢ 0 → i < length t.1.rows → length_with_rows bytes t.0 (take i t.1.rows) < most)
       × ((t.1.whole ≡ true) ⊎ (most ≤ length_with_rows bytes t.0 t.1.rows))
 
--- values, each where there is one
+-- the value at a key, where there is one
 abbrev pub value_at_bytes : {K V : Type 0} → (V → List ℕ) → Wanted K × Option V → List ℕ
 value_at_bytes values t = option_bytes values t.1
 
-abbrev pub values_bytes : {K V : Type 0} → (V → List ℕ) → List (Wanted K × Option V) → List ℕ
-values_bytes values = flat_map (value_at_bytes values)
-
--- a reply that begins so tells the values at all keys, or at the first up to that by which it has this many bytes
-abbrev pub ValuesFit : {K V : Type 0} → (V → List ℕ) → ℕ → List (Wanted K) → List ℕ → List ℕ → Type 0
-ValuesFit values most = TellsWhatFits (value_at_bytes values) (λ bytes t. IsNotFull most bytes) most
-
 module _ {K V : Type 0} (encoding : K → List ℕ) (values : V → List ℕ) where
-  -- it tells the outlines over all gaps, or over the first up to that by which it has this many bytes
-  abbrev pub OutlinesFit : ℕ → List (OwnedGap K) → List ℕ → List ℕ → Type 0
-  OutlinesFit most = TellsWhatFits (outline_over_bytes encoding values) (λ bytes t. IsNotFull most bytes) most
-
-  -- it tells the rows in all gaps, or in the first, and of the rows in a gap all, or the first, up to that by which it has this many bytes
+  -- a reply tells the rows in all gaps, or in the first, and of the rows in a gap all, or the first, up to that by which it has this many bytes
   abbrev pub PartsFit : ℕ → List (OwnedGap K) → List ℕ → List ℕ → Type 0
   PartsFit most = TellsWhatFits (part_in_bytes encoding values) (λ bytes t. IsNotFull most bytes × RowsFit encoding values most bytes t) most
 
   -- the reply to a question tells all that it asks for, or the first of it up to that by which it has this many bytes
   abbrev pub EndsWithin : ℕ → Question K → List ℕ → Type 0
   EndsWithin most (Root settings) reply = ⊤
-  EndsWithin most (Outlines n gaps) reply = OutlinesFit most gaps.items (front outlines_kind) reply
-  EndsWithin most (Nodes n gaps) reply = OutlinesFit most gaps.items (front nodes_kind) reply
-  EndsWithin most (RowsAt keys) reply = ValuesFit values most keys.items (front rows_at_kind) reply
+  EndsWithin most (Outlines n gaps) reply =
+      EntriesFit (outline_over_bytes encoding values) most gaps.items (front outlines_kind) reply
+  EndsWithin most (Nodes n gaps) reply =
+      EntriesFit (outline_over_bytes encoding values) most gaps.items (front nodes_kind) reply
+  EndsWithin most (RowsAt keys) reply = EntriesFit (value_at_bytes values) most keys.items (front rows_at_kind) reply
   EndsWithin most (RowsIn gaps) reply = PartsFit most gaps.items (front rows_in_kind) reply
 
   -- the message asks a question, and the reply to it tells so much
@@ -141,9 +138,9 @@ root_page_digest bytes_of tree = whole_digest (whole_item tree.format bytes_of t
 abbrev pub root_reply_bytes : ℕ → Option (List ℕ) → List ℕ
 root_reply_bytes count digest = (front root_kind ++ count_bytes count) ++ option_bytes (λ d. d) digest
 
--- the reply of a replica with these rows and this tree
-abbrev pub root_bytes : {K V H : Type 0} → (K → List ℕ) → List (K × V) → State K H → List ℕ
-root_bytes bytes_of rows tree = root_reply_bytes (length rows) (root_page_digest bytes_of tree)
+-- the reply to such a question of a replica with these rows and this tree
+abbrev pub IsRootReply : {K V H : Type 0} → (K → List ℕ) → List (K × V) → State K H → List ℕ → Type 0
+IsRootReply bytes_of rows tree reply = reply ≡ root_reply_bytes (length rows) (root_page_digest bytes_of tree)
 
 -- the items of the page over a gap
 abbrev pub items_over : {K H : Type 0} → (K → K → Ordering) → (K → List ℕ) → State K H → OwnedGap K → List (Item K (List ℕ))
@@ -153,52 +150,28 @@ module _ {K V H : Type 0} (cmp : K → K → Ordering) (bytes_of encoding : K �
   -- the reply to a question: where the settings are those of the tree, how many rows there are and the digest of the root page, or none; what is
   -- told of the pages over the gaps; the values at the keys; or the rows in the gaps
   abbrev pub IsReply : Question K → List ℕ → Type 0
-  IsReply (Root settings) reply = AreSettingsOf digest_of n tree settings × (reply ≡ root_bytes bytes_of rows tree)
-  IsReply (Outlines most gaps) reply = (told : List (OwnedGap K × Outline K V)) × TellsFirst (λ g. IsTold cmp rows true (items_over cmp bytes_of tree g)) gaps.items told
-      × (reply ≡ front outlines_kind ++ outlines_bytes encoding values told)
-  IsReply (Nodes most gaps) reply = (told : List (OwnedGap K × Outline K V)) × TellsFirst (λ g. IsTold cmp rows false (items_over cmp bytes_of tree g)) gaps.items told
-      × (reply ≡ front nodes_kind ++ outlines_bytes encoding values told)
-  IsReply (RowsAt keys) reply = (told : List (Wanted K × Option V)) × TellsFirst (λ w value. value ≡ get cmp rows w.key) keys.items told × (reply ≡ front rows_at_kind ++ values_bytes values told)
-  IsReply (RowsIn gaps) reply = (told : List (OwnedGap K × Part K V)) × TellsFirst (IsPartOf cmp rows) gaps.items told × (reply ≡ front rows_in_kind ++ parts_bytes encoding values told)
+  IsReply (Root settings) reply = AreSettingsBy digest_of n (digests_of tree) settings × IsRootReply bytes_of rows tree reply
+  IsReply (Outlines most gaps) reply =
+      AnswersFirst outlines_kind (outline_over_bytes encoding values) (λ g. IsTold cmp rows true (items_over cmp bytes_of tree g)) gaps.items reply
+  IsReply (Nodes most gaps) reply =
+      AnswersFirst nodes_kind (outline_over_bytes encoding values) (λ g. IsTold cmp rows false (items_over cmp bytes_of tree g)) gaps.items reply
+  IsReply (RowsAt keys) reply = AnswersFirst rows_at_kind (value_at_bytes values) (IsValueFor cmp rows) keys.items reply
+  IsReply (RowsIn gaps) reply = AnswersFirst rows_in_kind (part_in_bytes encoding values) (IsPartOf cmp rows) gaps.items reply
 
 module _ {K V H : Type 0} (laws : Laws K V H) (n : ℕ) (encoding : K → List ℕ) (values : V → List ℕ) where
   -- the reply to a question of a replica with these rows and this tree, whose digests of values have n bytes
   abbrev pub IsReplyBy : List (K × V) → State K H → Question K → Vec ℕ → Type 0
   IsReplyBy rows tree question reply = IsReply laws.cmp laws.bytes_of encoding values (laws.key_digest tree.hasher) n rows tree question reply.items
 
-  -- the message asks a question, and this is the reply to it of a side with these rows and this tree
-  abbrev pub IsAnsweredOf : List (K × V) → State K H → List ℕ → Vec ℕ → Type 0
-  IsAnsweredOf rows tree message reply = (question : Question K) × (message ≡ question_bytes encoding question) × IsReplyBy rows tree question reply
-
-  -- so it is by the rows that a replica had and the tree that it has
-  abbrev pub IsAnsweredBy : Contents K V H → Contents K V H → List ℕ → Vec ℕ → Type 0
-  IsAnsweredBy old new message reply = IsAnsweredOf old.rows new.tree message reply
+  -- the message asks a question, and this is the reply to it of a replica with these rows and this tree
+  abbrev pub IsAnsweredBy : List (K × V) → State K H → List ℕ → Vec ℕ → Type 0
+  IsAnsweredBy rows tree message reply = (question : Question K) × (message ≡ question_bytes encoding question) × IsReplyBy rows tree question reply
 
 module _ {K V H : Type 0} (laws : Laws K V H) (n : ℕ) where
   -- where the question is for the root, its settings are those of the tree
   abbrev pub TellsSettings : State K H → Question K → Type 0
-  TellsSettings tree (Root settings) = AreSettingsOf (laws.key_digest tree.hasher) n tree settings
-  TellsSettings tree (Outlines most gaps) = ⊤
-  TellsSettings tree (Nodes most gaps) = ⊤
-  TellsSettings tree (RowsAt keys) = ⊤
-  TellsSettings tree (RowsIn gaps) = ⊤
+  TellsSettings tree = IfRoot (AreOwnSettings laws.key_digest n tree)
 
-  -- the question is for the root, with settings that are not those of the tree
-  abbrev pub TellsOthers : State K H → Question K → Type 0
-  TellsOthers tree (Root settings) = ¬ AreSettingsOf (laws.key_digest tree.hasher) n tree settings
-  TellsOthers tree (Outlines most gaps) = ⊥
-  TellsOthers tree (Nodes most gaps) = ⊥
-  TellsOthers tree (RowsAt keys) = ⊥
-  TellsOthers tree (RowsIn gaps) = ⊥
-
-  -- the message asks such a question
+  -- the message asks a question that is for the root, with settings that are not those of the tree
   abbrev pub AsksWithOthers : (K → List ℕ) → State K H → List ℕ → Type 0
-  AsksWithOthers encoding tree message = (question : Question K) × (message ≡ question_bytes encoding question) × TellsOthers tree question
-
-  -- a question has no reply for its settings only where it tells others than those of the tree
-  abbrev pub RefusesQuestionOfOthers : State K H → Question K → AnswerError → Type 0
-  RefusesQuestionOfOthers tree question error = AreOtherSettings error → TellsOthers tree question
-
-  -- so it is with a message
-  abbrev pub RefusesOthers : (K → List ℕ) → State K H → List ℕ → AnswerError → Type 0
-  RefusesOthers encoding tree message error = AreOtherSettings error → AsksWithOthers encoding tree message
+  AsksWithOthers encoding tree message = (question : Question K) × (message ≡ question_bytes encoding question) × ¬ TellsSettings tree question

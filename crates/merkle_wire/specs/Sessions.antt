@@ -1,66 +1,35 @@
--- What a session of messages brings: the rows of the peer that a side lacks.
-use Rattle.std.specs.Prelude.{◌≡◌, ℕ, ◌<◌, true, false, List, [], ◌∷◌, map, flat_map, length, take, Some, ⊤, ◌⊎◌}
+-- What a session of messages brings, the rows of the peer that a side lacks, and when it ends early.
+use Rattle.std.specs.Prelude.{◌≡◌, ℕ, ◌<◌, true, false, List, [], ◌∷◌, map, flat_map, length, take, Some, ⊤, ◌⊎◌, ◌+◌, ◌*◌, ◌≤◌, ◌^◌}
 use Rattle.std.specs.Global.{Vec}
 use Rattle.std.specs.List.{AllByRecursion}
 use Rattle.key_order.specs.Join.{IsJoin}
 use Rattle.key_order.specs.Order.{AnyByRecursion, Same}
 use Rattle.key_order.specs.Map.{IsMap, get}
-use Rattle.merkle_replica.specs.CatchUp.{IsCatchUp, IsCatchUpOf, IsLacked}
+use Rattle.merkle_replica.specs.CatchUp.{IsLacked}
 use Rattle.merkle_replica.specs.Contents.{Contents, Side, side, with_rows, tree_map}
-use Rattle.merkle_replica.specs.Faithful.{AreSetAlike, HasSmallMap, IsCollisionFree, IsFaithful}
+use Rattle.merkle_replica.specs.Faithful.{AreSetAlike, IsFaithful}
 use Rattle.merkle_replica.specs.Laws.{Laws}
-use Rattle.merkle_replica.specs.Pulls.{HoldTheJoin}
-use Rattle.merkle_tree_theory.specs.Canonical.{IsTreeOf}
-use Rattle.merkle_tree_theory.specs.Gap.{Gap, IsInGap}
-use Rattle.merkle_tree_theory.specs.Outline.{outline_over}
 use Rattle.merkle_tree_theory.specs.Page.{nodes_of}
 use Rattle.merkle_tree_theory.specs.Ranges.{IsPageOf}
-use Rattle.merkle_tree_theory.specs.State.{State}
 use Rattle.merkle_tree_theory.specs.Tree.{Tree}
-use Rattle.merkle_tree_theory.specs.declared.page_format.PageFormat.TheVariants.{V2}
 use Rattle.merkle_wire.specs.Faults.{AreOtherSettings}
-use Rattle.merkle_wire.specs.Found.{Found, nothing}
-use Rattle.merkle_wire.specs.Gaps.{owned_gap}
-use Rattle.merkle_wire.specs.Next.{IsNext}
-use Rattle.merkle_wire.specs.Outlines.{nodes_among, keys_among, digest_of_all}
-use Rattle.merkle_wire.specs.Questions.{question_bytes}
-use Rattle.merkle_wire.specs.Replies.{IsReply}
-use Rattle.merkle_wire.specs.Settings.{IsDigested}
+use Rattle.merkle_wire.specs.Outlines.{digest_of_all}
 use Rattle.merkle_wire.specs.Taking.{has_row}
-use Rattle.merkle_wire.specs.Underway.{Underway}
-use Rattle.merkle_wire.specs.declared.answering.AnswerError.{AnswerError}
-use Rattle.merkle_wire.specs.declared.catching_up.Next.{Next}
-use Rattle.merkle_wire.specs.declared.catching_up.Next.TheVariants.{Ask, Came}
-use Rattle.merkle_wire.specs.declared.settings.Settings.{Settings}
 use Rattle.merkle_wire.specs.declared.session.BothMessagesError.{BothMessagesError}
 use Rattle.merkle_wire.specs.declared.session.BothMessagesError.TheVariants.{First, Second}
 use Rattle.merkle_wire.specs.declared.session.MessagesError.{MessagesError}
 use Rattle.merkle_wire.specs.declared.session.MessagesError.TheVariants.{Answer, Session, Join}
-use Rattle.merkle_wire.specs.declared.question.Question.{Question}
-use Rattle.merkle_wire.specs.declared.question.Question.TheVariants.{Root, Outlines, Nodes, RowsAt, RowsIn}
-
-module _ {K V H : Type 0} (laws : Laws K V H) (n : ℕ) (side : Side K V H) where
-  -- a question for the root tells the settings of the side, whose digests of values have n bytes
-  abbrev pub TellsOwn : Question K → Type 0
-  TellsOwn (Root s) = (s.level_base ≡ side.base) × (s.page_format ≡ side.format) × (s.digest_bytes ≡ n) × IsDigested (laws.key_digest side.hasher) s.sample
-  TellsOwn (Outlines most gaps) = ⊤
-  TellsOwn (Nodes most gaps) = ⊤
-  TellsOwn (RowsAt keys) = ⊤
-  TellsOwn (RowsIn gaps) = ⊤
-
-  -- so does what is asked next
-  abbrev pub TellsOwnNext : Next K V → Type 0
-  TellsOwnNext (Ask session message) = TellsOwn session.asked
-  TellsOwnNext (Came rows) = ⊤
+use Rattle.merkle_replica.specs.Pulls.{HoldTheJoin}
+use Rattle.std.specs.Ordering.{is_eq}
+use Rattle.std.specs.declared.cmp.Ordering.{Ordering}
+use Rattle.merkle_wire.specs.declared.answering.AnswerError.TheVariants as answer
+use Rattle.merkle_wire.specs.declared.session_error.SessionError.{SessionError}
+use Rattle.merkle_wire.specs.declared.session_error.SessionError.TheVariants as session
 
 module _ {K V H : Type 0} (laws : Laws K V H) (local peer : Side K V H) where
-  -- a message has no reply: for its settings only where the sides are not set alike
-  abbrev pub HasNoReply : AnswerError → Type 0
-  HasNoReply error = AreOtherSettings error → ¬ AreSetAlike laws local peer
-
-  -- the catch-up ended before it joined
+  -- the catch-up ended before it joined: for settings only where the sides are not set alike
   abbrev pub EndsBeforeJoin : MessagesError → Type 0
-  EndsBeforeJoin (Answer error) = HasNoReply error
+  EndsBeforeJoin (Answer error) = AreOtherSettings error → ¬ AreSetAlike laws local peer
   EndsBeforeJoin (Session error) = ⊤
   EndsBeforeJoin (Join done) = ⊥
 
@@ -112,32 +81,10 @@ module _ {K V H : Type 0} (laws : Laws K V H) (local peer : Side K V H) where
 
   -- nothing is joined; or the first `done` of such rows, and not all
   abbrev pub IsMessagesRefused : MessagesError → List (K × V) → Type 0
-  IsMessagesRefused (Answer error) after = (after ≡ local.rows) × HasNoReply error
+  IsMessagesRefused (Answer error) after = (after ≡ local.rows) × (AreOtherSettings error → ¬ AreSetAlike laws local peer)
   IsMessagesRefused (Session error) after = after ≡ local.rows
   IsMessagesRefused (Join done) after = (rows : List (K × V)) × AreBrought rows × (done < length rows)
       × IsJoin laws.cmp laws.eq laws.join local.rows (take done rows) after × (done ≡ 0 → after ≡ local.rows)
-
-module _ {K V H : Type 0} (laws : Laws K V H) (replica peer : Contents K V H) where
-  -- such rows of the peer came to the replica
-  abbrev pub BringsRows : Vec (K × V) → Type 0
-  BringsRows rows = AreBrought laws (side replica) (side peer) rows.items
-
-  module _ (after : Contents K V H) where
-    -- the replica has joined this many of them
-    abbrev pub JoinsNewRows : ℕ → Type 0
-    JoinsNewRows joined = HasJoined laws (side replica) (side peer) joined after.rows
-
-    -- while digests are faithful, to have joined this many rows is a catch-up
-    abbrev pub CatchesUpWhileFaithful : ℕ → Type 0
-    CatchesUpWhileFaithful joined = IsFaithfulSession laws (side replica) (side peer) → IsCatchUpOf laws (side replica) (side peer) joined after.rows
-
-    -- while digests are faithful, the rows are the join of both sides' rows
-    abbrev pub BringsTheJoin : Type 0
-    BringsTheJoin = IsFaithfulSession laws (side replica) (side peer) → IsJoin laws.cmp laws.eq laws.join replica.rows peer.rows after.rows
-
-    -- the catch-up ended early, with no row joined or the first ones
-    abbrev pub EndsEarly : MessagesError → Type 0
-    EndsEarly error = IsMessagesRefused laws (side replica) (side peer) error after.rows
 
 module _ {K V H : Type 0} (laws : Laws K V H) where
   -- a has joined this many rows of b, and then b this many of a
@@ -156,94 +103,25 @@ module _ {K V H : Type 0} (laws : Laws K V H) where
   AreBothRefused a b a' b' (Second first error) =
       HasJoined laws (side a) (side b) first a'.rows × IsMessagesRefused laws (side b) (with_rows (side a) a'.rows) error b'.rows
 
-module _ {K V H : Type 0} (laws : Laws K V H) (peer : Side K V H) (root : Tree K (List ℕ)) where
-  -- the key is that of a node of the peer's page over the gap
-  abbrev pub IsNodeOver : K → Gap K → Type 0
-  IsNodeOver k g = AnyByRecursion (Same laws.cmp k) (keys_among (nodes_among (outline_over peer.format laws.bytes_of laws.cmp root g)))
+-- the rows of a side can be told and read again: there are fewer than 2 ^ 64, and of these hold what holds of keys and values that are read
+pub record CanBeTold {K V H : Type 0} (laws : Laws K V H) (is_key : K → Type 0) (is_value : V → Type 0) (side : Side K V H) : Type 0 where
+  pub few : length side.rows < 2 ^ 64
+  pub read : (k : K) (v : V) → get laws.cmp side.rows k ≡ Some v → is_key k × is_value v
 
-  -- the question asks about the key: about all, about those in gaps, about the nodes of the pages over gaps, or about keys
-  abbrev pub AsksAbout : K → Question K → Type 0
-  AsksAbout k (Root settings) = ⊤
-  AsksAbout k (Outlines most gaps) = AnyByRecursion (λ g. IsInGap laws.cmp k (owned_gap g)) gaps.items
-  AsksAbout k (Nodes most gaps) = AnyByRecursion (λ g. IsNodeOver k (owned_gap g)) gaps.items
-  AsksAbout k (RowsAt keys) = AnyByRecursion (λ w. Same laws.cmp k w.key) keys.items
-  AsksAbout k (RowsIn gaps) = AnyByRecursion (λ g. IsInGap laws.cmp k (owned_gap g)) gaps.items
+-- memory ran out, or a limit was reached
+abbrev pub IsMemoryOrLimit : SessionError → Type 0
+IsMemoryOrLimit session.Memory = ⊤
+IsMemoryOrLimit (session.Limit limit) = ⊤
+IsMemoryOrLimit _ = ⊥
 
-  -- the key is among what was found: in a gap of a page, a node of one, a key that is wanted, in a gap of which all rows are, or a row's
-  abbrev pub IsAmong : K → Found K V → Type 0
-  IsAmong k f =
-      AnyByRecursion (IsInGap laws.cmp k) f.below ⊎ (AnyByRecursion (IsNodeOver k) f.nodes
-      ⊎ (AnyByRecursion (Same laws.cmp k) f.wanted ⊎ (AnyByRecursion (IsInGap laws.cmp k) f.whole ⊎ AnyByRecursion (λ r. Same laws.cmp k r.0) f.rows)))
+-- the key is one of the rows', or equal to one
+abbrev pub IsKeyOf : {K V : Type 0} → (K → K → Ordering) → List (K × V) → K → Type 0
+IsKeyOf {K} {V} cmp rows k = (v : V) × (get cmp rows k ≡ Some v)
 
-module _ {K V H : Type 0} (laws : Laws K V H) (local peer : Side K V H) (root : Tree K (List ℕ)) where
-  -- each row that was found is new; and while digests are faithful, each key that local lacks is asked about or among what was found
-  pub record Covers (u : Underway K V) : Type 0 where
-    pub new : AllByRecursion (IsNewRow laws local peer) u.found.rows
-    pub all : IsFaithfulSession laws local peer → (k : K) → IsLacked laws local peer k → AsksAbout laws peer root k u.asked ⊎ IsAmong laws peer root k u.found
-
-  -- the message that is sent next asks what the catch-up asks, which covers what is missing; or the rows came
-  abbrev pub CoversNext : (K → List ℕ) → Next K V → Type 0
-  CoversNext encoding (Ask session message) = (message.items ≡ question_bytes encoding session.asked) × Covers session
-  CoversNext encoding (Came rows) = AreBrought laws local peer rows.items
-
-module _ {K V H : Type 0} (laws : Laws K V H) (n : ℕ) (encoding : K → List ℕ) (values : V → List ℕ) (local peer : Side K V H) where
-  -- the peer's reply to a catch-up, as `answer` says of it: the message asks what the catch-up asks, and the peer read a question of it and answered
-  -- that by a tree of its map
-  pub record IsPeerReply (before : Underway K V) (reply : List ℕ) : Type 0 where
-    pub message : List ℕ
-    pub question : Question K
-    pub tree : State K H
-    pub asks : message ≡ question_bytes encoding before.asked
-    pub reads : message ≡ question_bytes encoding question
-    pub settings : (tree.hasher ≡ peer.hasher) × (tree.base ≡ peer.base) × (tree.format ≡ peer.format)
-    pub of_peer : IsTreeOf laws.cmp (laws.key_digest peer.hasher) peer.base tree.root (tree_map laws peer)
-    pub answers : IsReply laws.cmp laws.bytes_of encoding values (laws.key_digest tree.hasher) n peer.rows tree question reply
-
-  -- one exchange of messages: a reply was taken, as `CatchingUp::take` says of it, after which this came next
-  pub record IsExchange (before : Underway K V) (next : Next K V) : Type 0 where
-    pub reply : List ℕ
-    pub answer : IsPeerReply before reply
-    pub takes : IsNext laws n encoding values local before reply next
-
-  -- exchanges, one after the other, after the last of which the rows came
-  abbrev pub AreExchanges : Underway K V → List (Underway K V) → List (K × V) → Type 0
-  AreExchanges before [] rows = (came : Vec (K × V)) × IsExchange before (Came came) × (rows ≡ came.items)
-  AreExchanges before (next ∷ more) rows = (message : Vec ℕ) × IsExchange before (Ask next message) × AreExchanges next more rows
-
-  -- a session that begins with a question for the root, and in which the rows came
-  pub record IsSession (rows : List (K × V)) : Type 0 where
-    pub begun : Underway K V
-    pub settings : Settings K
-    pub more : List (Underway K V)
-    pub asks_root : begun.asked ≡ Root settings
-    pub nothing_found : begun.found ≡ nothing
-    pub exchanges : AreExchanges begun more rows
-
-module _ {K V H : Type 0} (laws : Laws K V H) (n : ℕ) (encoding : K → List ℕ) where
-  -- where the catch-up covers what the side lacks, by any tree of the peer's map, what comes next covers it
-  abbrev pub GoesOnCovering : Contents K V H → Contents K V H → Underway K V → Next K V → Type 0
-  GoesOnCovering replica peer before next = (root : Tree K (List ℕ))
-      → IsTreeOf laws.cmp (laws.key_digest peer.tree.hasher) peer.tree.base root (tree_map laws (side peer)) → HasSmallMap laws n (side peer)
-      → Covers laws (side replica) (side peer) root before → CoversNext laws (side replica) (side peer) root encoding next
-
-module _ {K V H : Type 0} (laws : Laws K V H) where
-  -- a session brings rows of the peer that the side lacks
-  abbrev pub SessionsBring : ℕ → (K → List ℕ) → (V → List ℕ) → Type 0
-  SessionsBring n encoding values = (local peer : Side K V H) (rows : List (K × V)) → IsMap laws.cmp local.rows → IsMap laws.cmp peer.rows
-      → HasSmallMap laws n peer → IsSession laws n encoding values local peer rows → AreBrought laws local peer rows
-
-  -- to join such rows is a catch-up, while digests are faithful
-  abbrev pub BroughtRowsCatchUp : Type 0
-  BroughtRowsCatchUp = (local peer : Side K V H) (rows after : List (K × V)) → IsMap laws.cmp peer.rows → AreBrought laws local peer rows
-      → IsJoin laws.cmp laws.eq laws.join local.rows rows after → IsFaithfulSession laws local peer → IsCatchUp laws local peer (map (λ r. r.0) rows) after
-
-  -- and leaves the join of both sides' rows
-  abbrev pub BroughtRowsJoin : Type 0
-  BroughtRowsJoin = (local peer : Side K V H) (rows after : List (K × V)) → IsMap laws.cmp peer.rows → AreBrought laws local peer rows
-      → IsJoin laws.cmp laws.eq laws.join local.rows rows after → IsFaithfulSession laws local peer
-      → IsJoin laws.cmp laws.eq laws.join local.rows peer.rows after
-
-  -- in page format 2 digests are faithful in a session of two sides that are set alike, where nothing collides
-  abbrev pub NoCollisionIsFaithful : ℕ → Type 0
-  NoCollisionIsFaithful n = (a b : Side K V H) → AreSetAlike laws a b → DigestTheirValuesAlike laws a b → a.format ≡ V2
-      → IsCollisionFree laws n a b → NoNodesCollide laws a b → IsFaithfulSession laws a b
+module _ {K V H : Type 0} (laws : Laws K V H) (local peer : Side K V H) where
+  -- between sides that are set alike and whose rows can be told, only a lack of memory leaves a message without a reply, or a reply not taken
+  module _ (is_key : K → Type 0) (is_value : V → Type 0) where
+    abbrev pub IsForMemory : MessagesError → Type 0
+    IsForMemory (Answer error) = AreSetAlike laws local peer → CanBeTold laws is_key is_value local → CanBeTold laws is_key is_value peer → error ≡ answer.Memory
+    IsForMemory (Session error) = CanBeTold laws is_key is_value peer → error ≡ session.Memory
+    IsForMemory (Join done) = ⊤

@@ -1,7 +1,6 @@
 -- What the digests of two sides rest on.
 use Rattle.std.specs.Prelude.{◌≡◌, ◌≢◌, ℕ, ◌<◌, ◌^◌, List, ◌∷◌, ◌++◌, Option, Some, None, ⊤}
 use Rattle.std.specs.Global.{Vec}
-use Rattle.merkle_tree_theory.specs.State.{State}
 use Rattle.merkle_tree_theory.specs.declared.page_format.PageFormat.{PageFormat}
 use Rattle.merkle_tree_theory.specs.declared.page_format.PageFormat.TheVariants.{V1, V2}
 use Rattle.merkle_bytes.specs.Counts.{count_bytes}
@@ -9,15 +8,12 @@ use Rattle.merkle_bytes.specs.Encodings.{string_encoding}
 use Rattle.merkle_bytes.specs.Options.{option_bytes, IsOption}
 use Rattle.merkle_wire.specs.ItsRows.{Digests, digests_of}
 use Rattle.merkle_wire.specs.declared.settings.Settings.{Settings}
+use Rattle.merkle_tree_theory.specs.State.{State}
 
 -- the byte of a page format
 abbrev pub format_byte : PageFormat → ℕ
 format_byte V1 = 1
 format_byte V2 = 2
-
--- the byte is that of no page format
-abbrev pub IsNoFormat : ℕ → Type 0
-IsNoFormat byte = (format : PageFormat) → byte ≢ format_byte format
 
 module _ {K : Type 0} (encoding : K → List ℕ) where
   -- the level base, the page format, how many bytes a digest has, and a key with its digest, or none
@@ -29,11 +25,6 @@ module _ {K : Type 0} (is_value : K → Type 0) where
   abbrev pub AreSettings : Settings K → Type 0
   AreSettings s = (s.digest_bytes < 2 ^ 64) × IsOption (λ p. is_value p.0) s.sample
 
-module _ {K : Type 0} (encoding : K → List ℕ) (is_value : K → Type 0) where
-  -- no settings stand at the front
-  abbrev pub NoSettings : List ℕ → Type 0
-  NoSettings left = (settings : Settings K) (rest : List ℕ) → AreSettings is_value settings → left ≢ settings_bytes encoding settings ++ rest
-
 module _ {K : Type 0} (digest_of : K → List ℕ) where
   -- the digest is that of the key
   abbrev pub IsDigested : Option (K × Vec ℕ) → Type 0
@@ -44,10 +35,6 @@ module _ {K : Type 0} (digest_of : K → List ℕ) where
   abbrev pub AreSettingsBy : {H : Type 0} → ℕ → Digests K H → Settings K → Type 0
   AreSettingsBy n own s = (s.level_base ≡ own.base) × (s.page_format ≡ own.format) × (s.digest_bytes ≡ n) × IsDigested s.sample
 
-  -- so they are of one with this tree
-  abbrev pub AreSettingsOf : {H : Type 0} → ℕ → State K H → Settings K → Type 0
-  AreSettingsOf n tree = AreSettingsBy n (digests_of tree)
-
 -- these are the settings of a tree, whose keys have digests by its own hasher
 abbrev pub AreOwnSettings : {K H : Type 0} → (H → K → List ℕ) → ℕ → State K H → Settings K → Type 0
-AreOwnSettings digest_of n tree settings = AreSettingsOf (digest_of tree.hasher) n tree settings
+AreOwnSettings digest_of n tree = AreSettingsBy (digest_of tree.hasher) n (digests_of tree)

@@ -54,10 +54,6 @@ module _ {K V H : Type 0} (laws : Laws K V H) (local : Side K V H) where
   abbrev pub AddsKeys : List (K × List ℕ) → Found K V → Found K V → Type 0
   AddsKeys nodes before after = after ≡ record before { wanted = before.wanted ++ new_keys nodes }
 
-  -- gaps of pages below are added
-  abbrev pub AddsGaps : List (Gap K) → Found K V → Found K V → Type 0
-  AddsGaps gaps before after = after ≡ record before { below = before.below ++ gaps }
-
   -- it has all keys, with digests whose digest is this one
   abbrev pub HasNodes : List K → List ℕ → Type 0
   HasNodes keys digest = (ds : List (List ℕ)) × (map (get laws.cmp (tree_map laws local)) keys ≡ map Some ds) × (digest_of_all ds ≡ digest)

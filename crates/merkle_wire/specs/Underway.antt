@@ -2,8 +2,6 @@
 use Rattle.std.specs.Prelude.{◌≡◌, ◌≢◌, ℕ, List, [], ◌++◌, map, flat_map, Option, Some, None, ◌⊎◌}
 use Rattle.std.specs.Global.{Vec}
 use Rattle.std.specs.List.{AllByRecursion}
-use Rattle.merkle_bytes.specs.Counts.{count_bytes}
-use Rattle.merkle_bytes.specs.Options.{option_bytes}
 use Rattle.merkle_replica.specs.Contents.{Side}
 use Rattle.merkle_replica.specs.Laws.{Laws}
 use Rattle.merkle_wire.specs.Coming.{AscendIn, LiesIn}
@@ -11,10 +9,10 @@ use Rattle.merkle_wire.specs.Found.{Found}
 use Rattle.merkle_wire.specs.Gaps.{owned_gap}
 use Rattle.merkle_wire.specs.Messages.{front}
 use Rattle.merkle_wire.specs.Outlines.{Outline}
-use Rattle.merkle_wire.specs.Replies.{Part, outlines_bytes, parts_bytes, values_bytes}
+use Rattle.merkle_wire.specs.Replies.{Part, outline_over_bytes, part_in_bytes, value_at_bytes, root_reply_bytes}
 use Rattle.merkle_wire.specs.Taking.{IsRootTaken, AddsRows, AreTaken, AreBehind, value_row}
 use Rattle.merkle_wire.specs.declared.gaps.OwnedGap.{OwnedGap}
-use Rattle.merkle_wire.specs.declared.message.Kind.TheVariants.{Root as root_kind, Outlines as outlines_kind, Nodes as nodes_kind, RowsAt as rows_at_kind, RowsIn as rows_in_kind}
+use Rattle.merkle_wire.specs.declared.message.Kind.TheVariants.{Outlines as outlines_kind, Nodes as nodes_kind, RowsAt as rows_at_kind, RowsIn as rows_in_kind}
 use Rattle.merkle_wire.specs.declared.limits.Limits.{Limits}
 use Rattle.merkle_wire.specs.declared.question.Question.{Question}
 use Rattle.merkle_wire.specs.declared.question.Question.TheVariants.{Root, Outlines, Nodes, RowsAt, RowsIn}
@@ -35,27 +33,27 @@ module _ {K V H : Type 0} (laws : Laws K V H) (n : ℕ) (encoding : K → List �
   -- outlines came of the first gaps, of one at least, and were taken; `left` are the others
   abbrev pub HasOutlines : List ℕ → List (OwnedGap K) → List ℕ → Found K V → Found K V → List (OwnedGap K) → Type 0
   HasOutlines kind gaps reply before after left = (told : List (OwnedGap K × Outline K V))
-      × (reply ≡ kind ++ outlines_bytes encoding values told) × (told ≢ []) × (gaps ≡ map (λ t. t.0) told ++ left)
+      × (reply ≡ kind ++ flat_map (outline_over_bytes encoding values) told) × (told ≢ []) × (gaps ≡ map (λ t. t.0) told ++ left)
       × AllByRecursion (λ t. LiesIn laws.cmp n (owned_gap t.0) t.1) told × AreTaken laws local told before after
 
   -- values came at the first keys, at one at least, and those were taken that the side doesn't have; `left` are the others
   abbrev pub HasValues : List (Wanted K) → List ℕ → Found K V → Found K V → List (Wanted K) → Type 0
   HasValues keys reply before after left = (told : List (Wanted K × Option V))
-      × (reply ≡ front rows_at_kind ++ values_bytes values told) × (told ≢ []) × (keys ≡ map (λ t. t.0) told ++ left)
+      × (reply ≡ front rows_at_kind ++ flat_map (value_at_bytes values) told) × (told ≢ []) × (keys ≡ map (λ t. t.0) told ++ left)
       × AddsRows laws local (flat_map value_row told) before after
 
   -- rows came in the first gaps, in one at least, and those were taken that the side doesn't have; `left` are the gaps after rows that are not all
   -- of their gap, and the others
   abbrev pub HasParts : List (OwnedGap K) → List ℕ → Found K V → Found K V → List (OwnedGap K) → Type 0
   HasParts gaps reply before after left = (told : List (OwnedGap K × Part K V)) × (behind : List (OwnedGap K)) × (rest : List (OwnedGap K))
-      × (reply ≡ front rows_in_kind ++ parts_bytes encoding values told) × (told ≢ []) × (gaps ≡ map (λ t. t.0) told ++ rest)
+      × (reply ≡ front rows_in_kind ++ flat_map (part_in_bytes encoding values) told) × (told ≢ []) × (gaps ≡ map (λ t. t.0) told ++ rest)
       × AllByRecursion (λ t. AscendIn laws.cmp (owned_gap t.0) (map (λ r. r.0) t.1.rows)) told × AreBehind laws.cmp told behind × (left ≡ behind ++ rest)
       × AddsRows laws local (flat_map (λ t. t.1.rows) told) before after
 
   -- a reply to a question was taken, after which this question is to be asked again, or none
   abbrev pub HasTakenReply : Question K → List ℕ → Found K V → Found K V → Option (Question K) → Type 0
   HasTakenReply (Root settings) reply before after again = (count : ℕ) × (digest : Option (List ℕ))
-      × (reply ≡ (front root_kind ++ count_bytes count) ++ option_bytes (λ d. d) digest) × IsRootTaken laws local digest before after × (again ≡ None)
+      × (reply ≡ root_reply_bytes count digest) × IsRootTaken laws local digest before after × (again ≡ None)
   HasTakenReply (Outlines most gaps) reply before after again = (left : List (OwnedGap K)) × HasOutlines (front outlines_kind) gaps.items reply before after left × AsksAgain (Outlines most) left again
   HasTakenReply (Nodes most gaps) reply before after again = (left : List (OwnedGap K)) × HasOutlines (front nodes_kind) gaps.items reply before after left × AsksAgain (Nodes most) left again
   HasTakenReply (RowsAt keys) reply before after again = (left : List (Wanted K)) × HasValues keys.items reply before after left × AsksAgain RowsAt left again

@@ -1,10 +1,10 @@
 //! The answering side: a reply to a message, with nothing kept between messages.
 ghost use Rattle.std.specs.Prelude.{◌≡◌, false, IsSome, IsTrue, IfOk, IfErr, IfSome, Some};
 ghost use Rattle.merkle_tree_theory.specs.State.{SameSettings, map_of};
-ghost use Rattle.merkle_wire.specs.Faults.{IsUnread, OfMessage, answer_error_text};
+ghost use Rattle.merkle_wire.specs.Faults.{IsUnread, OfMessage, answer_error_text, AreOtherSettings};
 ghost use Rattle.merkle_wire.specs.Questions.{AsksNothing};
-ghost use Rattle.merkle_wire.specs.Replies.{EndsWithin, IsAnsweredBy, IsAnsweredWithin, IsReplyBy, RefusesOthers, RefusesQuestionOfOthers};
-ghost use Rattle.merkle_wire.specs.Replies.{TellsOthers, TellsSettings, root_bytes};
+ghost use Rattle.merkle_wire.specs.Replies.{EndsWithin, IsAnsweredBy, IsAnsweredWithin, IsReplyBy, AsksWithOthers, IsRootReply};
+ghost use Rattle.merkle_wire.specs.Replies.{TellsSettings};
 
 use crate::kept_side::KeptSide;
 use crate::message::{Kind, begin};
@@ -99,10 +99,10 @@ pub fn answer<K: Key + Decode, V: Join + Encode + Drop, H: RowHasher<N, K, V>, c
     message: &[u8],
 ) -> Result<Vec<u8>, AnswerError>
     // The message asks, and the reply is that of the rows and the tree.
-    ensures answered { IfOk result (IsAnsweredBy H.laws N K.encoding V.encoding replica.old replica.new message.now) }
+    ensures answered { IfOk result (IsAnsweredBy H.laws N K.encoding V.encoding replica.old.rows replica.new.tree message.now) }
     ensures within { IfOk result (IsAnsweredWithin K.encoding V.encoding 67108864 message.now) }
     ensures malformed { IfErr result (λ error. IsUnread error → AsksNothing K.encoding K.is_value message.now) }
-    ensures other_settings { IfErr result (RefusesOthers H.laws N K.encoding replica.new.tree message.now) }
+    ensures other_settings { IfErr result (λ error. AreOtherSettings error → AsksWithOthers H.laws N K.encoding replica.new.tree message.now) }
     ensures rows { replica.new.rows ≡ replica.old.rows }
     ensures settings { SameSettings replica.old.tree replica.new.tree }
 {
@@ -127,10 +127,10 @@ pub fn answer_within<
     message: &[u8],
     most_bytes: usize,
 ) -> Result<Vec<u8>, AnswerError>
-    ensures answered { IfOk result (IsAnsweredBy H.laws N K.encoding V.encoding replica.old replica.new message.now) }
+    ensures answered { IfOk result (IsAnsweredBy H.laws N K.encoding V.encoding replica.old.rows replica.new.tree message.now) }
     ensures within { IfOk result (IsAnsweredWithin K.encoding V.encoding most_bytes message.now) }
     ensures malformed { IfErr result (λ error. IsUnread error → AsksNothing K.encoding K.is_value message.now) }
-    ensures other_settings { IfErr result (RefusesOthers H.laws N K.encoding replica.new.tree message.now) }
+    ensures other_settings { IfErr result (λ error. AreOtherSettings error → AsksWithOthers H.laws N K.encoding replica.new.tree message.now) }
     ensures rows { replica.new.rows ≡ replica.old.rows }
     ensures settings { SameSettings replica.old.tree replica.new.tree }
 {
@@ -171,10 +171,12 @@ pub fn answer_by<
     message: &[u8],
     most_bytes: usize,
 ) -> Result<Vec<u8>, KeptError<S::Error>>
-    ensures answered { IfOk result (IsAnsweredBy H.laws N K.encoding V.encoding (S.contents side.old beside.now) (S.contents side.new beside.now) message.now) }
+    ensures answered { IfOk result (IsAnsweredBy H.laws N K.encoding V.encoding (S.contents side.old beside.now).rows (S.contents side.new beside.now).tree
+        message.now) }
     ensures within { IfOk result (IsAnsweredWithin K.encoding V.encoding most_bytes message.now) }
     ensures malformed { IfErr result (OfMessage (λ error. IsUnread error → AsksNothing K.encoding K.is_value message.now)) }
-    ensures other_settings { IfErr result (OfMessage (RefusesOthers H.laws N K.encoding (S.contents side.new beside.now).tree message.now)) }
+    ensures other_settings { IfErr result (OfMessage (λ error. AreOtherSettings error
+        → AsksWithOthers H.laws N K.encoding (S.contents side.new beside.now).tree message.now)) }
     ensures rows { (S.contents side.new beside.now).rows ≡ (S.contents side.old beside.now).rows }
     ensures map { map_of (S.contents side.new beside.now).tree ≡ map_of (S.contents side.old beside.now).tree }
     ensures settings { SameSettings (S.contents side.old beside.now).tree (S.contents side.new beside.now).tree }
@@ -231,7 +233,7 @@ fn reply_to<
         (S.contents side.old beside.now).tree question.now) }
     ensures within { IfOk result (λ reply. EndsWithin K.encoding V.encoding most_bytes question.now reply.items) }
     ensures read { IfErr result (OfMessage (λ error. ¬ IsUnread error)) }
-    ensures others { IfErr result (OfMessage (RefusesQuestionOfOthers H.laws N (S.contents side.old beside.now).tree question.now)) }
+    ensures others { IfErr result (OfMessage (λ error. AreOtherSettings error → ¬ TellsSettings H.laws N (S.contents side.old beside.now).tree question.now)) }
     ensures kept { S.contents side.new beside.now ≡ S.contents side.old beside.now }
 {
     if !tells_settings(side, beside, question) {
@@ -253,7 +255,7 @@ fn tells_settings<
     const N: usize,
 >(side: &S, beside: &R, question: &Question<K>) -> bool
     ensures own { IsTrue result → TellsSettings H.laws N (S.contents side.now beside.now).tree question.now }
-    ensures others { result ≡ false → TellsOthers H.laws N (S.contents side.now beside.now).tree question.now }
+    ensures others { result ≡ false → ¬ TellsSettings H.laws N (S.contents side.now beside.now).tree question.now }
 {
     match question {
         Question::Root(settings) => side.has_settings(beside, settings),
@@ -325,7 +327,7 @@ fn tell_root<
     const N: usize,
 >(alloc: Global, side: &mut S, beside: &R) -> Result<Vec<u8>, S::Error>
     requires hashed { IsSome (S.contents side.old beside.now).tree.root_hash }
-    ensures told { IfOk result (λ reply. reply.items ≡ root_bytes K.bytes_of (S.contents side.old beside.now).rows (S.contents side.old beside.now).tree) }
+    ensures told { IfOk result (λ told. IsRootReply K.bytes_of (S.contents side.old beside.now).rows (S.contents side.old beside.now).tree told.items) }
     ensures kept { S.contents side.new beside.now ≡ S.contents side.old beside.now }
 {
     let count = side.count(beside)?;

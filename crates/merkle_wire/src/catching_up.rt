@@ -1,16 +1,16 @@
 //! The asking side: what to ask next, and the rows that came in the end.
 ghost use Rattle.std.specs.Prelude.{◌≡◌, ◌≤◌, IfOk, IfErr, IfSome, length};
 ghost use Rattle.merkle_replica.specs.Contents.{side};
-ghost use Rattle.merkle_tree_theory.specs.State.{SameSettings, map_of};
+ghost use Rattle.merkle_tree_theory.specs.State.{SameSettings};
 ghost use Rattle.merkle_wire.specs.Asking.{AsksForOutlines};
 ghost use Rattle.merkle_wire.specs.Faults.{OfSession};
 ghost use Rattle.merkle_wire.specs.Found.{nothing};
-ghost use Rattle.merkle_wire.specs.ItsRows.{ForItsRows, ForRowsOf};
+ghost use Rattle.merkle_wire.specs.ItsRows.{ForRowsOf, digests_of};
 ghost use Rattle.merkle_wire.specs.Limits.{Allows};
-ghost use Rattle.merkle_wire.specs.Next.{AsksFew, GoesOn, HasLeft, IsAsked, IsCame, IsEnded, IsNextOf, IsStopped, IsStoppedOf, IsTwice, OnlyAskedFor, StaysWithin, Takes, rounds_with};
-ghost use Rattle.merkle_wire.specs.Questions.{AsksForOwnRoot, AsksForRoot, AsksForRootBy, IsQuestion, question_bytes};
+ghost use Rattle.merkle_wire.specs.Next.{GoesOn, HasLeft, IsAsked, IsCame, IsEnded, IsStopped, IsTwice, OnlyAskedFor, StaysWithin, rounds_with, IfAsks, IsNext, IsStoppedOf};
+ghost use Rattle.merkle_wire.specs.Questions.{AsksForRoot, IsQuestion, question_bytes};
 ghost use Rattle.merkle_wire.specs.Replies.{IsReplyBy};
-ghost use Rattle.merkle_wire.specs.Steady.{IsKeyOf};
+ghost use Rattle.merkle_wire.specs.Sessions.{IsKeyOf};
 ghost use Rattle.merkle_wire.specs.declared.session_error.SessionError.TheVariants.{Memory, TooManyRounds};
 
 use crate::answering::own_reply;
@@ -101,7 +101,8 @@ impl<K: Key + Decode, V: Join + Decode> CatchingUp<K, V> {
         alloc: Global,
         replica: &Replica<K, V, H, N>,
     ) -> Result<(Self, Vec<u8>), AllocError>
-        ensures settings { IfOk result (λ begun. AsksForOwnRoot ⟦<H as Hasher<N, K>>⟧.digest_of N replica.now begun.0.asked) }
+        ensures settings { IfOk result (λ begun. AsksForRoot (⟦<H as Hasher<N, K>>⟧.digest_of replica.now.tree.hasher) N
+            (digests_of replica.now.tree) begun.0.asked) }
         ensures asks { IfOk result (λ begun. begun.1.items ≡ question_bytes K.encoding begun.0.asked) }
         ensures keys { IfOk result (λ begun. IsQuestion (IsKeyOf K.cmp replica.now.rows) begun.0.asked) }
         ensures nothing { IfOk result (λ begun. (begun.0.found ≡ nothing) × (begun.0.rounds ≡ 0)) }
@@ -119,11 +120,11 @@ impl<K: Key + Decode, V: Join + Decode> CatchingUp<K, V> {
         alloc: Global,
         tree: &MerkleSearchTree<K, V, H, N>,
     ) -> Result<(Self, Vec<u8>), AllocError>
-        ensures settings { IfOk result (λ begun. AsksForRoot (⟦<H as Hasher<N, K>>⟧.digest_of tree.now.hasher) N tree.now begun.0.asked) }
+        ensures settings { IfOk result (λ begun. AsksForRoot (⟦<H as Hasher<N, K>>⟧.digest_of tree.now.hasher) N (digests_of tree.now) begun.0.asked) }
         ensures asks { IfOk result (λ begun. begun.1.items ≡ question_bytes K.encoding begun.0.asked) }
 
         // Whatever rows the tree has the digests of, the key that is told is one of theirs.
-        ensures keys { IfOk result (λ begun. ForItsRows H.laws tree.now (λ local. IsQuestion (IsKeyOf K.cmp local.rows) begun.0.asked)) }
+        ensures keys { IfOk result (λ begun. ForRowsOf H.laws (digests_of tree.now) (λ local. IsQuestion (IsKeyOf K.cmp local.rows) begun.0.asked)) }
 
         ensures nothing { IfOk result (λ begun. (begun.0.found ≡ nothing) × (begun.0.rounds ≡ 0)) }
     {
@@ -139,7 +140,7 @@ impl<K: Key + Decode, V: Join + Decode> CatchingUp<K, V> {
         alloc: Global,
         tree: &mut T,
     ) -> Result<(Self, Vec<u8>), T::Error>
-        ensures settings { IfOk result (λ begun. AsksForRootBy (⟦<H as Hasher<N, K>>⟧.digest_of (T.kept tree.old).digests.hasher) N
+        ensures settings { IfOk result (λ begun. AsksForRoot (⟦<H as Hasher<N, K>>⟧.digest_of (T.kept tree.old).digests.hasher) N
             (T.kept tree.old).digests begun.0.asked) }
         ensures asks { IfOk result (λ begun. begun.1.items ≡ question_bytes K.encoding begun.0.asked) }
 
@@ -213,8 +214,8 @@ impl<K: Key + Decode, V: Join + Decode> CatchingUp<K, V> {
         replica: &mut Replica<K, V, H, N>,
         reply: &[u8],
     ) -> Result<Next<K, V>, SessionError>
-        ensures next { IfOk result (Takes H.laws N K.encoding V.encoding replica.old self reply.now) }
-        ensures few { IfOk result AsksFew }
+        ensures next { IfOk result (IsNext H.laws N K.encoding V.encoding (side replica.old) self reply.now) }
+        ensures few { IfOk result (IfAsks (λ session. session.rounds ≤ 256)) }
 
         // Whatever the peer sends, each reply is taken off the limits, so a session ends after as many as they allow.
         ensures limits { IfOk result (StaysWithin self (length reply.now)) }
@@ -252,8 +253,9 @@ impl<K: Key + Decode, V: Join + Decode> CatchingUp<K, V> {
         reply: &[u8],
     ) -> Result<Next<K, V>, TakeError<T::Error>>
         // Whatever rows the tree has the digests of, it is what a replica with them makes of the reply.
-        ensures next { IfOk result (IsNextOf H.laws N K.encoding V.encoding (T.kept tree.old).digests self reply.now) }
-        ensures few { IfOk result AsksFew }
+        ensures next { IfOk result (λ next. ForRowsOf H.laws (T.kept tree.old).digests
+            (λ local. IsNext H.laws N K.encoding V.encoding local self reply.now next)) }
+        ensures few { IfOk result (IfAsks (λ session. session.rounds ≤ 256)) }
         ensures limits { IfOk result (StaysWithin self (length reply.now)) }
         ensures asked_for { IfOk result (λ next. ForRowsOf H.laws (T.kept tree.old).digests (λ local. OnlyAskedFor K.cmp self next)) }
         ensures ended { IfErr result (OfSession (IsStoppedOf H.laws N K.encoding V.encoding (T.kept tree.old).digests K.is_value V.is_value
@@ -314,7 +316,7 @@ fn go_on<K: Key + Decode, V: Join + Decode>(
     requires few { rounds ≤ 256 }
     requires limits { Allows left.rows (length work.rows) }
     ensures goes_on { IfOk result (GoesOn K.cmp K.encoding rounds work) }
-    ensures few { IfOk result AsksFew }
+    ensures few { IfOk result (IfAsks (λ session. session.rounds ≤ 256)) }
     ensures limits { IfOk result (HasLeft left) }
     ensures ended { IfErr result (IsEnded K.cmp rounds work) }
 {
@@ -357,7 +359,7 @@ fn ask<K: Key + Decode, V: Join + Decode>(
     requires few { rounds ≤ 256 }
     requires limits { Allows left.rows (length work.rows) }
     ensures asked { IfOk result (IsAsked K.encoding question work rounds) }
-    ensures few { IfOk result AsksFew }
+    ensures few { IfOk result (IfAsks (λ session. session.rounds ≤ 256)) }
     ensures limits { IfOk result (HasLeft left) }
     ensures memory { IfErr result (λ error. error ≡ Memory) }
 {

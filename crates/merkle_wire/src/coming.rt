@@ -1,15 +1,16 @@
 //! What came of a page, of a value or of the rows in a gap, as it is read.
-ghost use Rattle.std.specs.Prelude.{◌≡◌, ◌≢◌, ◌++◌, [], length, ◌+◌, map, flat_map, OnOk, IfOk, IfErr};
+ghost use Rattle.std.specs.Prelude.{◌≡◌, ◌≢◌, ◌++◌, ◌∷◌, Option, [], length, ◌+◌, map, flat_map, OnOk, IfOk, IfErr};
 ghost use Rattle.std.specs.List.{AllByRecursion};
-ghost use Rattle.merkle_bytes.specs.Reading.{Reads};
+ghost use Rattle.merkle_bytes.specs.Options.{IsOption, option_bytes};
+ghost use Rattle.merkle_bytes.specs.Reading.{BeginsWithNo, Reads};
 ghost use Rattle.merkle_bytes.specs.Runs.{bound_key, row_behind, row_key, run_bytes};
 ghost use Rattle.merkle_wire.specs.Coming.{AscendIn, IsPageDigest, LiesIn};
 ghost use Rattle.merkle_wire.specs.Faults.{IsRefusedFor};
 ghost use Rattle.merkle_wire.specs.Gaps.{owned_gap};
-ghost use Rattle.merkle_wire.specs.Outlines.{keys_among, keys_told, outline_bytes, pages_bytes};
-ghost use Rattle.merkle_wire.specs.Reads.{AddsBehind, ReadsPart, ReadsValue, below_keys, digests_beside, nodes_bytes, nodes_read, outline_read, page_digests, page_keys};
-ghost use Rattle.merkle_wire.specs.Reads.{RefusesNodes, RefusesOutline, RefusesPart, RefusesRows};
-ghost use Rattle.merkle_wire.specs.Unfit.{NoDigests, NoPage, NoPageDigests, NoValue};
+ghost use Rattle.merkle_wire.specs.Outlines.{keys_among, outline_bytes, pages_bytes, nodes_bytes, page_bytes};
+ghost use Rattle.merkle_wire.specs.Reads.{ReadsPart, below_keys, digests_beside, nodes_read, outline_read, AddsBehind};
+ghost use Rattle.merkle_wire.specs.Fit.{AreNodesIn, NoOutline, NoRows, NoPart, NoPage, NoDigests};
+ghost use Rattle.merkle_wire.specs.Taking.{value_row};
 
 use crate::gaps::OwnedGap;
 use crate::pages::decode_page;
@@ -57,7 +58,7 @@ pub(crate) fn read_outline<'a, K: Key + Decode, V: Join + Decode>(
     ensures read { IfOk result (λ came. Reads reader.old
         (outline_bytes K.encoding V.encoding (bound_key K.encoding [] gap.now.after) (outline_read came)) reader.new) }
     ensures lies { IfOk result (λ came. LiesIn K.cmp digest_bytes (owned_gap gap.now) (outline_read came)) }
-    ensures refused { IfErr result (RefusesOutline K.cmp K.is_value V.is_value K.encoding V.encoding digest_bytes with_pages gap.now reader.old) }
+    ensures refused { IfErr result (IsRefusedFor (NoOutline K.cmp K.is_value V.is_value K.encoding V.encoding digest_bytes with_pages gap.now reader.old.left.now)) }
 {
     let mut run = KeyRun::behind(reader.alloc(), gap.after.as_ref())?;
     let [kind] = reader.array::<1>()?;
@@ -87,7 +88,7 @@ fn read_rows<K: Key + Decode, V: Join + Decode>(
     ensures read { IfOk result (λ rows. Reads reader.old
         (run_bytes (row_behind K.encoding V.encoding) (row_key K.encoding) run.old rows.items) reader.new) }
     ensures lie { IfOk result (λ rows. AscendIn K.cmp (owned_gap gap.now) (map (λ r. r.0) rows.items)) }
-    ensures refused { IfErr result (RefusesRows K.cmp K.is_value V.is_value K.encoding V.encoding run.old gap.now reader.old) }
+    ensures refused { IfErr result (IsRefusedFor (NoRows K.cmp K.is_value V.is_value K.encoding V.encoding run.old gap.now reader.old.left.now)) }
 {
     let rows = decode_run::<(K, V)>(run, reader)?;
     if !rows_lie_in(&rows, gap) {
@@ -106,7 +107,8 @@ fn read_nodes<'a, K: Key + Decode>(
     ensures read { IfOk result (λ nodes. Reads reader.old (nodes_bytes K.encoding run.old (nodes_read nodes.items)) reader.new) }
     ensures lie { IfOk result (λ nodes. AscendIn K.cmp (owned_gap gap.now) (keys_among (nodes_read nodes.items))) }
     ensures lengths { IfOk result (λ nodes. AllByRecursion (λ d. length d.1 ≡ digest_bytes) (nodes_read nodes.items)) }
-    ensures refused { IfErr result (RefusesNodes K.cmp K.is_value K.encoding digest_bytes run.old gap.now reader.old) }
+    ensures refused { IfErr result (IsRefusedFor (BeginsWithNo (nodes_bytes K.encoding run.old)
+        (AreNodesIn K.cmp K.is_value digest_bytes (owned_gap gap.now)) reader.old.left.now)) }
 {
     let keys = decode_run::<Wanted<K>>(run, reader)?;
     if !keys_lie_in(&keys, gap) {
@@ -141,12 +143,12 @@ fn read_page<K: Key + Decode>(
     gap: &OwnedGap<K>,
     run: &mut KeyRun,
 ) -> Result<PageRead<K>, SessionError>
-    ensures read { IfOk result (λ page. Reads reader.old
-        (page.digest ++ (keys_told K.encoding run.old (page_keys page) ++ pages_bytes (page_digests page))) reader.new) }
-    ensures some { IfOk result (λ page. page_keys page ≢ []) }
-    ensures lie { IfOk result (λ page. AscendIn K.cmp (owned_gap gap.now) (page_keys page)) }
+    ensures read { IfOk result (λ it. Reads reader.old
+        (page_bytes K.encoding run.old it.digest (below_keys it.below.items) (digests_beside it.below.items it.last)) reader.new) }
+    ensures some { IfOk result (λ page. below_keys page.below.items ≢ []) }
+    ensures lie { IfOk result (λ page. AscendIn K.cmp (owned_gap gap.now) (below_keys page.below.items)) }
     ensures digest { IfOk result (λ page. length page.digest ≡ 16) }
-    ensures digests { IfOk result (λ page. AllByRecursion IsPageDigest (page_digests page)) }
+    ensures digests { IfOk result (λ page. AllByRecursion IsPageDigest (digests_beside page.below.items page.last)) }
     ensures refused { IfErr result (IsRefusedFor (NoPage K.cmp K.is_value K.encoding run.old gap.now reader.old.left.now)) }
 {
     let digest = reader.array::<16>()?;
@@ -176,7 +178,8 @@ fn read_pages<K: Key + Drop>(
     ensures keys { IfOk result (λ pages. below_keys pages.0.items ≡ map (λ w. w.key) keys.items) }
     ensures read { IfOk result (λ pages. Reads reader.old (pages_bytes (digests_beside pages.0.items pages.1)) reader.new) }
     ensures digests { IfOk result (λ pages. AllByRecursion IsPageDigest (digests_beside pages.0.items pages.1)) }
-    ensures refused { IfErr result (IsRefusedFor (NoPageDigests (length keys.items + 1) reader.old.left.now)) }
+    ensures refused { IfErr result (IsRefusedFor (BeginsWithNo pages_bytes
+        (λ pages. (length pages ≡ length keys.items + 1) × AllByRecursion IsPageDigest pages) reader.old.left.now)) }
 {
     let mut below = Vec::new(reader.alloc());
     'keys: for wanted in keys {
@@ -193,8 +196,9 @@ pub(crate) fn read_value<K: Key + Decode, V: Join + Decode>(
     wanted: Wanted<K>,
     rows: &mut Vec<(K, V)>,
 ) -> Result<(), SessionError>
-    ensures read { OnOk result (ReadsValue V.encoding wanted reader.old reader.new rows.old.items rows.new.items) }
-    ensures refused { IfErr result (IsRefusedFor (NoValue V.is_value V.encoding reader.old.left.now)) }
+    ensures read { OnOk result ((value : Option V) × Reads reader.old (option_bytes V.encoding value) reader.new
+        × (rows.new.items ≡ rows.old.items ++ value_row (wanted, value))) }
+    ensures refused { IfErr result (IsRefusedFor (BeginsWithNo (option_bytes V.encoding) (IsOption V.is_value) reader.old.left.now)) }
 {
     let Some(value) = Option::<V>::decode(reader)? else {
         return Ok(());
@@ -212,7 +216,7 @@ pub(crate) fn read_part<K: Key + Decode, V: Join + Decode>(
 ) -> Result<(), SessionError>
     ensures read { OnOk result (ReadsPart K.cmp K.encoding V.encoding gap.now reader.old reader.new rows.old.items rows.new.items
         left.old.items left.new.items) }
-    ensures refused { IfErr result (RefusesPart K.cmp K.is_value V.is_value K.encoding V.encoding gap.now reader.old) }
+    ensures refused { IfErr result (IsRefusedFor (NoPart K.cmp K.is_value V.is_value K.encoding V.encoding gap.now reader.old.left.now)) }
 {
     let mut run = KeyRun::behind(reader.alloc(), gap.after.as_ref())?;
     let mut part = read_rows(reader, gap, &mut run)?;

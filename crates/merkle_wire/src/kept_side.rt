@@ -3,8 +3,8 @@ ghost use Rattle.std.specs.Prelude.{◌≡◌, ◌↔◌, IfOk, OnOk, IsSome, Is
 ghost use Rattle.merkle_replica.specs.Contents.{Contents};
 ghost use Rattle.merkle_tree_theory.specs.State.{SameSettings, map_of};
 ghost use Rattle.merkle_wire.specs.Replies.{root_page_digest};
-ghost use Rattle.merkle_wire.specs.Settings.{AreOwnSettings};
 ghost use Rattle.merkle_wire.specs.Told.{AddsValueAt, TellsPage, TellsPart};
+ghost use Rattle.merkle_wire.specs.Settings.{AreOwnSettings};
 
 use crate::gaps::OwnedGap;
 use crate::kept_rows::KeptRows;

@@ -6,8 +6,8 @@ ghost use Rattle.merkle_bytes.specs.Options.{IsOption};
 ghost use Rattle.merkle_replica.specs.Descent.{HasPage};
 ghost use Rattle.merkle_search_tree.specs.Items.{lent_gap};
 ghost use Rattle.merkle_tree_theory.specs.State.{map_of};
-ghost use Rattle.merkle_wire.specs.ItsRows.{ForItsRows, ForRowsOf, Kept, digests_of};
-ghost use Rattle.merkle_wire.specs.Steady.{IsKeyOf};
+ghost use Rattle.merkle_wire.specs.ItsRows.{ForRowsOf, Kept, digests_of};
+ghost use Rattle.merkle_wire.specs.Sessions.{IsKeyOf};
 ghost use Rattle.merkle_wire.specs.Taking.{HasPageAt};
 
 use merkle_digest::{Digest, Hasher, Key, PageDigest, ValueDigest};
@@ -163,8 +163,8 @@ fn is_page_of<K: Key + Drop, V: Join + Drop, H: RowHasher<N, K, V>, const N: usi
     digest: &PageDigest,
 ) -> bool
     requires { IsSome tree.now.root_hash }
-    ensures there { IsTrue result → ForItsRows H.laws tree.now (λ local. HasPage H.laws local digest.now) }
-    ensures lacked { result ≡ false → ForItsRows H.laws tree.now (λ local. ¬ HasPageAt H.laws local (lent_gap gap.now) digest.now) }
+    ensures there { IsTrue result → ForRowsOf H.laws (digests_of tree.now) (λ local. HasPage H.laws local digest.now) }
+    ensures lacked { result ≡ false → ForRowsOf H.laws (digests_of tree.now) (λ local. ¬ HasPageAt H.laws local (lent_gap gap.now) digest.now) }
 {
     every_tree_is_sound(tree);
     a_map_has_one_tree::<K, H, N>();

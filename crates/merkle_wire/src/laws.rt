@@ -1,8 +1,7 @@
 //! Laws over the definitions: a session of messages is a catch-up, whatever carries the messages; a session with an honest peer ends; what it costs;
 //! and when digests in it are faithful. The functions have no effect and take no memory.
-ghost use Rattle.merkle_wire.specs.Cost.{LackedKeysAreTold, LackedPagesAreTold, OwnPagesAreKnown};
-ghost use Rattle.merkle_wire.specs.Sessions.{BroughtRowsCatchUp, BroughtRowsJoin, NoCollisionIsFaithful, SessionsBring};
-ghost use Rattle.merkle_wire.specs.Steady.{AnswersAreTaken, SessionsEnd};
+ghost use Rattle.merkle_wire.specs.SessionLaws.{AnswersAreTaken, BroughtRowsCatchUp, BroughtRowsJoin, LackedKeysAreTold, LackedPagesAreTold};
+ghost use Rattle.merkle_wire.specs.SessionLaws.{NoCollisionIsFaithful, OwnPagesAreKnown, SessionsBring, SessionsEnd};
 
 use merkle_bytes::Decode;
 use merkle_digest::{Key, KeyBytesExact};

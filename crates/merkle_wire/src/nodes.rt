@@ -3,9 +3,8 @@ ghost use Rattle.std.specs.Prelude.{◌≡◌, ◌+◌, ◌<◌, ◌^◌, ◌++�
 ghost use Rattle.merkle_bytes.specs.Counts.{count_bytes};
 ghost use Rattle.merkle_bytes.specs.Encodings.{AddsBytes};
 ghost use Rattle.merkle_search_tree.specs.Items.{items};
-ghost use Rattle.merkle_wire.specs.Nodes.{node_pairs};
-ghost use Rattle.merkle_wire.specs.Outlines.{nodes_among, nodes_digest};
-ghost use Rattle.merkle_wire.specs.Told.{AddsRowAt, AreRowsOfNodes, TellsNodes, bound_before, digests_bytes, node_keys_bytes};
+ghost use Rattle.merkle_wire.specs.Outlines.{nodes_among, nodes_digest, nodes_bytes, AreNodes, keys_told, keys_among, node_pairs};
+ghost use Rattle.merkle_wire.specs.Told.{AddsRowAt, AreRowsOfNodes, bound_before, AddsTold};
 
 use crate::kept_rows::KeptRows;
 use merkle_bytes::{Encode, KeyRun, encode_count};
@@ -49,7 +48,7 @@ pub(crate) fn encode_keys<K: Encode, const N: usize>(
     run: &mut KeyRun,
     bytes: &mut Vec<u8>,
 ) -> Result<(), AllocError>
-    ensures { OnOk result (AddsBytes bytes.old (node_keys_bytes K.encoding run.old nodes.now) bytes.new) }
+    ensures { OnOk result (AddsBytes bytes.old (keys_told K.encoding run.old (keys_among (node_pairs nodes.now))) bytes.new) }
 {
     encode_count(nodes.len() as u64, bytes)?;
     'nodes: for node in nodes {
@@ -67,7 +66,8 @@ pub(crate) fn write_nodes<K: Key + Encode, V: Encode, R: KeptRows<K, V>, const N
     after: Option<&K>,
     bytes: &mut Vec<u8>,
 ) -> Result<(), R::Error>
-    ensures { OnOk result (TellsNodes K.cmp K.encoding V.encoding (R.rows rows.now) nodes.now (bound_before K.encoding after.entry) bytes.old bytes.new) }
+    ensures { OnOk result (AddsTold K.encoding V.encoding (AreNodes K.cmp (R.rows rows.now) (node_pairs nodes.now)) (bound_before K.encoding after.entry)
+        bytes.old bytes.new) }
 {
     match short_rows(alloc, rows, nodes, most, after)? {
         Some(told) => {
@@ -171,7 +171,7 @@ fn write_digests<K: Encode, const N: usize>(
     run: &mut KeyRun,
     bytes: &mut Vec<u8>,
 ) -> Result<(), AllocError>
-    ensures { OnOk result (AddsBytes bytes.old (digests_bytes K.encoding run.old nodes.now) bytes.new) }
+    ensures { OnOk result (AddsBytes bytes.old (1 ∷ nodes_bytes K.encoding run.old (node_pairs nodes.now)) bytes.new) }
 {
     bytes.extend_from_slice(&[1])?;
     encode_keys(nodes, run, bytes)?;

@@ -1,11 +1,11 @@
 //! What the answering side tells of pages.
-ghost use Rattle.std.specs.Prelude.{◌≡◌, true, false, IfOk, OnOk, IsSome, IsTrue, None};
+ghost use Rattle.std.specs.Prelude.{◌≡◌, ◌++◌, ◌∷◌, true, false, IfOk, OnOk, IsSome, IsTrue, None};
 ghost use Rattle.merkle_bytes.specs.Encodings.{AddsBytes};
 ghost use Rattle.merkle_search_tree.specs.Items.{items};
 ghost use Rattle.merkle_wire.specs.Messages.{front};
-ghost use Rattle.merkle_wire.specs.Outlines.{HasNoPage, pages_beside, pages_bytes};
-ghost use Rattle.merkle_wire.specs.Replies.{IsNotFull, IsFull, OutlinesFit, items_over};
-ghost use Rattle.merkle_wire.specs.Told.{TellsItems, TellsPages, bound_before, page_bytes};
+ghost use Rattle.merkle_wire.specs.Outlines.{HasNoPage, pages_beside, pages_bytes, nodes_digest};
+ghost use Rattle.merkle_wire.specs.Replies.{IsNotFull, IsFull, items_over, outline_over_bytes, EntriesFit};
+ghost use Rattle.merkle_wire.specs.Told.{bound_before, TellsPages, TellsItems, lent_page_bytes};
 
 use crate::gaps::OwnedGap;
 use crate::kept_rows::KeptRows;
@@ -50,7 +50,7 @@ pub(crate) fn tell_pages<
 ) -> Result<Vec<u8>, S::Error>
     requires hashed { IsSome (S.contents side.old beside.now).tree.root_hash }
     ensures told { IfOk result (TellsPages K.cmp K.bytes_of K.encoding V.encoding (S.contents side.old beside.now) telling kind gaps.now) }
-    ensures fits { IfOk result (λ reply. OutlinesFit K.encoding V.encoding most_bytes gaps.now (front kind) reply.items) }
+    ensures fits { IfOk result (λ reply. EntriesFit (outline_over_bytes K.encoding V.encoding) most_bytes gaps.now (front kind) reply.items) }
     ensures kept { S.contents side.new beside.now ≡ S.contents side.old beside.now }
 {
     let mut bytes = begin(alloc, kind)?;
@@ -100,7 +100,7 @@ pub fn tell_outline<K: Key + Encode + Drop, V: Encode, R: KeptRows<K, V>, const 
     after: Option<&K>,
     bytes: &mut Vec<u8>,
 ) -> Result<(), R::Error>
-    ensures { OnOk result (TellsItems K.cmp K.encoding V.encoding (R.rows rows.now) telling list.now
+    ensures { OnOk result (TellsItems K.cmp K.encoding V.encoding (R.rows rows.now) telling (items list.now)
         (bound_before K.encoding after.entry) bytes.old bytes.new) }
 {
     let nodes = nodes_of(alloc, list)?;
@@ -144,7 +144,7 @@ fn write_page<K: Encode, const N: usize>(
     run: &mut KeyRun,
     bytes: &mut Vec<u8>,
 ) -> Result<(), AllocError>
-    ensures { OnOk result (AddsBytes bytes.old (page_bytes K.encoding run.old nodes.now list.now) bytes.new) }
+    ensures { OnOk result (AddsBytes bytes.old (2 ∷ lent_page_bytes K.encoding run.old nodes.now (items list.now)) bytes.new) }
 {
     bytes.extend_from_slice(&[2])?;
     bytes.extend_from_slice(&nodes_digest(nodes))?;

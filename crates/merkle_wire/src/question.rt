@@ -1,10 +1,12 @@
 //! What the asking side asks for, as messages.
-ghost use Rattle.std.specs.Prelude.{◌≡◌, IfOk, IfErr, [], length};
+ghost use Rattle.std.specs.Prelude.{◌≡◌, ◌≢◌, ◌++◌, List, IfOk, IfErr, [], length};
 ghost use Rattle.std.specs.List.{AllByRecursion};
 ghost use Rattle.merkle_bytes.specs.Encodings.{AddsBytes};
 ghost use Rattle.merkle_bytes.specs.Refusals.{IsMalformed, IsRefusal};
 ghost use Rattle.merkle_bytes.specs.Runs.{run_bytes};
-ghost use Rattle.merkle_wire.specs.Questions.{AsksNothing, FindsNoRun, IsQuestion, counted_gaps_bytes, question_bytes};
+ghost use Rattle.merkle_bytes.specs.Counts.{count_bytes};
+ghost use Rattle.merkle_wire.specs.Messages.{front};
+ghost use Rattle.merkle_wire.specs.Questions.{gaps_bytes, AsksNothing, IsQuestion, question_bytes};
 
 use crate::gaps::OwnedGap;
 use crate::message::{Kind, begin, decode_kind};
@@ -77,7 +79,7 @@ fn with_most<K: Encode>(
     most: u64,
     gaps: &[OwnedGap<K>],
 ) -> Result<Vec<u8>, AllocError>
-    ensures { IfOk result (λ message. message.items ≡ counted_gaps_bytes K.encoding kind most gaps.now) }
+    ensures { IfOk result (λ message. message.items ≡ (front kind ++ count_bytes most) ++ gaps_bytes K.encoding gaps.now) }
 {
     let mut message = begin(alloc, kind)?;
     encode_count(most, &mut message)?;
@@ -145,7 +147,8 @@ fn last_run<T: DecodeInRun>(reader: Reader<'_>) -> Result<Vec<T>, ReadError>
     ensures read { IfOk result (λ list. reader.entry.left.now ≡ run_bytes T.bytes_behind T.last_key [] list.items) }
     ensures entries { IfOk result (λ list. AllByRecursion T.is_entry list.items) }
     ensures refused { IfErr result (IsRefusal reader.entry.total reader.entry.left.now) }
-    ensures malformed { IfErr result (FindsNoRun T.bytes_behind T.last_key T.is_entry [] reader.entry) }
+    ensures malformed { IfErr result (λ error. IsMalformed error → (xs : List T) → AllByRecursion T.is_entry xs
+        → reader.entry.left.now ≢ run_bytes T.bytes_behind T.last_key [] xs) }
 {
     let mut reader = reader;
     let mut run = KeyRun::new(reader.alloc());

@@ -1,14 +1,13 @@
 //! Replies that came, read: each answers the first of what was asked for, or all of it.
-ghost use Rattle.std.specs.Prelude.{◌≡◌, ◌≢◌, ◌++◌, [], length, IfOk, IfErr, OnOk};
+ghost use Rattle.std.specs.Prelude.{◌≡◌, ◌≢◌, ◌++◌, ℕ, List, [], flat_map, length, IfOk, IfErr, OnOk};
 ghost use Rattle.merkle_bytes.specs.Reading.{Reads};
 ghost use Rattle.merkle_wire.specs.Faults.{IsRefusedFor};
-ghost use Rattle.merkle_wire.specs.Fit.{SaysRoot};
+ghost use Rattle.merkle_wire.specs.Fit.{SaysRoot, SaysOutlines, IsFit, Says, SaysSo, NoParts, SaysParts};
 ghost use Rattle.merkle_wire.specs.Messages.{front};
 ghost use Rattle.merkle_wire.specs.Reads.{IsReplyRead, ReadsOutlines, ReadsParts, ReadsPartsOf, ReadsValues, outlines_read};
-ghost use Rattle.merkle_wire.specs.Reads.{RefusesOutlines, RefusesParts, RefusesPartsOf, RefusesReply, RefusesValues};
-ghost use Rattle.merkle_wire.specs.Replies.{root_reply_bytes};
-ghost use Rattle.merkle_wire.specs.Unfit.{NoEntry, NoFront, SaysNot};
-ghost use Rattle.merkle_wire.specs.declared.message.Kind.TheVariants.{Root as root_kind};
+ghost use Rattle.merkle_wire.specs.Replies.{root_reply_bytes, value_at_bytes};
+ghost use Rattle.merkle_wire.specs.declared.message.Kind.TheVariants.{Root as root_kind, RowsAt as rows_at_kind, RowsIn as rows_in_kind};
+ghost use Rattle.merkle_bytes.specs.Options.{IsOption};
 
 use crate::coming::{OutlineRead, read_outline, read_part, read_value};
 use crate::gaps::OwnedGap;
@@ -25,7 +24,7 @@ use std::alloc::Global;
 /// Reads the front of a reply of this kind.
 pub(crate) fn expect(reader: &mut Reader<'_>, kind: Kind) -> Result<(), SessionError>
     ensures read { OnOk result (Reads reader.old (front kind) reader.new) }
-    ensures refused { IfErr result (IsRefusedFor (NoFront kind reader.old.left.now)) }
+    ensures refused { IfErr result (IsRefusedFor ((rest : List ℕ) → reader.old.left.now ≢ front kind ++ rest)) }
 {
     let came = decode_kind(reader)?;
     if came == kind {
@@ -41,7 +40,7 @@ pub(crate) fn expect(reader: &mut Reader<'_>, kind: Kind) -> Result<(), SessionE
 fn reader_of<'a>(alloc: Global, reply: &'a [u8], kind: Kind) -> Result<Reader<'a>, SessionError>
     ensures read { IfOk result (λ reader. reply.now ≡ front kind ++ reader.left.now) }
     ensures some { IfOk result (λ reader. reader.left.now ≢ []) }
-    ensures refused { IfErr result (IsRefusedFor (NoEntry kind reply.now)) }
+    ensures refused { IfErr result (IsRefusedFor ((rest : List ℕ) → rest ≢ [] → reply.now ≢ front kind ++ rest)) }
 {
     let mut reader = Reader::new(alloc, reply);
     expect(&mut reader, kind)?;
@@ -68,7 +67,7 @@ pub(crate) enum Reply<'a, K, V> {
 /// How many rows the peer has, and the digest of its root page, or none.
 fn decode_root(alloc: Global, reply: &[u8]) -> Result<(u64, Option<PageDigest>), SessionError>
     ensures read { IfOk result (λ root. reply.now ≡ root_reply_bytes root.0 root.1) }
-    ensures refused { IfErr result (IsRefusedFor (SaysNot root_kind SaysRoot reply.now)) }
+    ensures refused { IfErr result (IsRefusedFor (¬ SaysSo root_kind SaysRoot reply.now)) }
 {
     let mut reader = Reader::new(alloc, reply);
     expect(&mut reader, Kind::Root)?;
@@ -89,7 +88,8 @@ fn read_outlines<'a, K: Key + Decode, V: Join + Decode>(
 ) -> Result<(Vec<OutlineOver<'a, K, V>>, Vec<OwnedGap<K>>), SessionError>
     ensures read { IfOk result (λ came. ReadsOutlines K.cmp K.encoding V.encoding digest_bytes kind gaps.items reply.now
         (outlines_read came.0.items) came.1.items) }
-    ensures refused { IfErr result (RefusesOutlines K.cmp K.is_value V.is_value K.encoding V.encoding digest_bytes with_pages kind gaps reply.now) }
+    ensures refused { IfErr result (IsRefusedFor (¬ SaysSo kind
+        (SaysOutlines K.cmp K.is_value V.is_value K.encoding V.encoding digest_bytes with_pages gaps.items) reply.now)) }
 {
     let mut reader = reader_of(alloc, reply, kind)?;
     let mut told = Vec::new(alloc);
@@ -113,7 +113,8 @@ fn read_values<K: Key + Decode, V: Join + Decode>(
     reply: &[u8],
 ) -> Result<(Vec<(K, V)>, Vec<Wanted<K>>), SessionError>
     ensures read { IfOk result (λ came. ReadsValues V.encoding keys.items reply.now came.0.items came.1.items) }
-    ensures refused { IfErr result (RefusesValues V.is_value V.encoding keys reply.now) }
+    ensures refused { IfErr result (IsRefusedFor (¬ SaysSo rows_at_kind
+        (Says (λ wanted. IsOption V.is_value) (flat_map (value_at_bytes V.encoding)) keys.items) reply.now)) }
 {
     let mut reader = reader_of(alloc, reply, Kind::RowsAt)?;
     let mut rows = Vec::new(alloc);
@@ -137,7 +138,7 @@ fn read_parts<K: Key + Decode, V: Join + Decode>(
     reply: &[u8],
 ) -> Result<(Vec<(K, V)>, Vec<OwnedGap<K>>), SessionError>
     ensures read { IfOk result (λ came. ReadsParts K.cmp K.encoding V.encoding gaps.items reply.now came.0.items came.1.items) }
-    ensures refused { IfErr result (RefusesParts K.cmp K.is_value V.is_value K.encoding V.encoding gaps reply.now) }
+    ensures refused { IfErr result (IsRefusedFor (¬ SaysSo rows_in_kind (SaysParts K.cmp K.is_value V.is_value K.encoding V.encoding gaps.items) reply.now)) }
 {
     let mut gaps = gaps;
     let mut rows = Vec::new(alloc);
@@ -161,7 +162,7 @@ fn read_first_parts<K: Key + Decode, V: Join + Decode>(
     ensures read { IfOk result (ReadsPartsOf K.cmp K.encoding V.encoding gaps.now reader.old reader.new
         rows.old.items rows.new.items left.old.items left.new.items) }
     ensures all { IfOk result (λ count. reader.new.left.now ≢ [] → count ≡ length gaps.now) }
-    ensures refused { IfErr result (RefusesPartsOf K.cmp K.is_value V.is_value K.encoding V.encoding gaps.now reader.old) }
+    ensures refused { IfErr result (IsRefusedFor (NoParts K.cmp K.is_value V.is_value K.encoding V.encoding gaps.now reader.old.left.now)) }
 {
     let mut count = 0;
     'gaps: for gap in gaps {
@@ -182,7 +183,7 @@ pub(crate) fn read_reply<'a, K: Key + Decode, V: Join + Decode>(
     reply: &'a [u8],
 ) -> Result<(Reply<'a, K, V>, Option<Question<K>>), SessionError>
     ensures read { IfOk result (λ came. IsReplyRead K.cmp K.encoding V.encoding digest_bytes asked reply.now came.0 came.1) }
-    ensures refused { IfErr result (RefusesReply K.cmp K.is_value V.is_value K.encoding V.encoding digest_bytes asked reply.now) }
+    ensures refused { IfErr result (IsRefusedFor (¬ IsFit K.cmp K.is_value V.is_value K.encoding V.encoding digest_bytes asked reply.now)) }
 {
     match asked {
         Question::Root(_) => {

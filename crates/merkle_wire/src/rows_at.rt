@@ -1,8 +1,10 @@
 //! The values of a side at keys.
 ghost use Rattle.std.specs.Prelude.{◌≡◌, ◌++◌, ◌∷◌, IfOk, OnOk};
+ghost use Rattle.key_order.specs.Map.{get};
+ghost use Rattle.merkle_bytes.specs.Encodings.{AddsBytes};
+ghost use Rattle.merkle_bytes.specs.Options.{option_bytes};
 ghost use Rattle.merkle_wire.specs.Messages.{front};
-ghost use Rattle.merkle_wire.specs.Replies.{ValuesFit};
-ghost use Rattle.merkle_wire.specs.Told.{TellsValue, TellsValues};
+ghost use Rattle.merkle_wire.specs.Replies.{AnswersFirst, value_at_bytes, EntriesFit, IsValueFor};
 
 use crate::kept_side::KeptSide;
 use crate::message::{Kind, begin};
@@ -28,9 +30,10 @@ pub(crate) fn tell_values<
     most_bytes: usize,
     keys: &[Wanted<K>],
 ) -> Result<Vec<u8>, S::Error>
-    ensures told { IfOk result (TellsValues K.cmp V.encoding (S.contents side.old beside.now).rows keys.now) }
+    ensures told { IfOk result (λ reply. AnswersFirst Kind.RowsAt (value_at_bytes V.encoding)
+        (IsValueFor K.cmp (S.contents side.old beside.now).rows) keys.now reply.items) }
     ensures kept { S.contents side.new beside.now ≡ S.contents side.old beside.now }
-    ensures fits { IfOk result (λ reply. ValuesFit V.encoding most_bytes keys.now (front Kind.RowsAt) reply.items) }
+    ensures fits { IfOk result (λ reply. EntriesFit (value_at_bytes V.encoding) most_bytes keys.now (front Kind.RowsAt) reply.items) }
 {
     let mut bytes = begin(alloc, Kind::RowsAt)?;
     'keys: for wanted in keys {
@@ -51,7 +54,7 @@ fn tell_value<
     R,
     const N: usize,
 >(alloc: Global, side: &mut S, beside: &R, key: &K, bytes: &mut Vec<u8>) -> Result<(), S::Error>
-    ensures told { OnOk result (TellsValue K.cmp V.encoding (S.contents side.old beside.now).rows key.now bytes.old bytes.new) }
+    ensures told { OnOk result (AddsBytes bytes.old (option_bytes V.encoding (get K.cmp (S.contents side.old beside.now).rows key.now)) bytes.new) }
     ensures kept { S.contents side.new beside.now ≡ S.contents side.old beside.now }
 {
     let mut value = Vec::new(alloc);

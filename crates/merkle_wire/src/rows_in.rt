@@ -1,12 +1,13 @@
 //! The rows of a side in gaps.
-ghost use Rattle.std.specs.Prelude.{◌≡◌, ◌≢◌, ◌≤◌, ◌⊎◌, true, false, cond, not, length, take, drop, [], IfOk, OnOk};
+ghost use Rattle.std.specs.Prelude.{◌≡◌, ◌≢◌, ℕ, ◌≤◌, ◌<◌, ◌++◌, ◌⊎◌, true, false, cond, not, length, take, drop, [], IfOk, OnOk};
 ghost use Rattle.std.specs.List.{AllByRecursion};
 ghost use Rattle.key_order.specs.Map.{IsMap};
 ghost use Rattle.merkle_tree_theory.specs.Gap.{is_after, is_before, pairs_within};
+ghost use Rattle.merkle_bytes.specs.Encodings.{AddsBytes};
 ghost use Rattle.merkle_wire.specs.Gaps.{owned_gap};
 ghost use Rattle.merkle_wire.specs.Messages.{front};
-ghost use Rattle.merkle_wire.specs.Replies.{PartsFit};
-ghost use Rattle.merkle_wire.specs.Told.{AddsFirst, LeavesRoom, TellsPart, TellsParts};
+ghost use Rattle.merkle_wire.specs.Told.{TellsPart};
+ghost use Rattle.merkle_wire.specs.Replies.{AnswersFirst, part_in_bytes, IsPartOf, rows_bytes, PartsFit};
 
 use crate::gaps::OwnedGap;
 use crate::kept_side::KeptSide;
@@ -32,7 +33,8 @@ pub(crate) fn tell_rows<
     most_bytes: usize,
     gaps: &[OwnedGap<K>],
 ) -> Result<Vec<u8>, S::Error>
-    ensures told { IfOk result (TellsParts K.cmp K.encoding V.encoding (S.contents side.old beside.now).rows gaps.now) }
+    ensures told { IfOk result (λ told. AnswersFirst Kind.RowsIn (part_in_bytes K.encoding V.encoding)
+        (IsPartOf K.cmp (S.contents side.old beside.now).rows) gaps.now told.items) }
     ensures kept { S.contents side.new beside.now ≡ S.contents side.old beside.now }
     ensures fits { IfOk result (λ reply. PartsFit K.encoding V.encoding most_bytes gaps.now (front Kind.RowsIn) reply.items) }
 {
@@ -89,8 +91,9 @@ fn encode_first<K: Encode, V: Encode>(
 ) -> Result<usize, AllocError>
     ensures inside { IfOk result (λ count. count ≤ length rows.now) }
     ensures some { IfOk result (λ count. rows.now ≢ [] → count ≢ 0) }
-    ensures written { IfOk result (AddsFirst K.encoding V.encoding run.old rows.now bytes.old bytes.new) }
-    ensures room { IfOk result (LeavesRoom K.encoding V.encoding run.old rows.now room bytes.old) }
+    ensures written { IfOk result (λ count. AddsBytes bytes.old (rows_bytes K.encoding V.encoding run.old (take count rows.now)) bytes.new) }
+    ensures room { IfOk result (λ count. (i : ℕ) → i ≢ 0 → i < count
+        → length (bytes.old.items ++ rows_bytes K.encoding V.encoding run.old (take i rows.now)) < room) }
     ensures ends { IfOk result (λ count. (count ≡ length rows.now) ⊎ (room ≤ length bytes.new.items)) }
 {
     let mut count = 0;

@@ -1,15 +1,20 @@
 //! A whole catch-up between two replicas, through messages.
-ghost use Rattle.std.specs.Prelude.{◌≡◌, IfOk, IfErr, OnOk, Some};
+ghost use Rattle.std.specs.Prelude.{◌≡◌, IfOk, IfErr, OnOk, Some, ◌<◌};
 ghost use Rattle.merkle_replica.specs.Contents.{side};
 ghost use Rattle.merkle_tree_theory.specs.State.{SameSettings};
 ghost use Rattle.merkle_wire.specs.Faults.{both_messages_error_text, messages_error_text};
 ghost use Rattle.merkle_wire.specs.Found.{nothing};
 ghost use Rattle.merkle_wire.specs.Limits.{no_limits};
-ghost use Rattle.merkle_wire.specs.Next.{IsUnlimited};
-ghost use Rattle.merkle_wire.specs.Questions.{AsksForOwnRoot, IsQuestion, question_bytes};
-ghost use Rattle.merkle_wire.specs.Sessions.{AreBothRefused, BringsRows, CatchesUpWhileFaithful, EndsEarly, GoesOnCovering, HaveJoined};
-ghost use Rattle.merkle_wire.specs.Sessions.{BothHoldTheJoin, EndsBeforeJoin, JoinsNewRows, BringsTheJoin, TellsOwn, TellsOwnNext};
-ghost use Rattle.merkle_wire.specs.Steady.{EndsForMemory, GoesDown, HasKeysOfSides, IsKeyOf, KeepsKeys, LacksMemory, StaysSteady};
+ghost use Rattle.merkle_wire.specs.Questions.{IsQuestion, question_bytes, AsksForRoot};
+ghost use Rattle.merkle_wire.specs.Sessions.{AreBothRefused, AreBrought, HasJoined, IsFaithfulSession, IsMessagesRefused, HaveJoined, BothHoldTheJoin};
+ghost use Rattle.merkle_wire.specs.Sessions.{EndsBeforeJoin};
+ghost use Rattle.merkle_wire.specs.Sessions.{IsKeyOf, IsForMemory};
+ghost use Rattle.merkle_wire.specs.Next.{IfAsks};
+ghost use Rattle.merkle_wire.specs.ItsRows.{digests_of};
+ghost use Rattle.merkle_replica.specs.CatchUp.{IsCatchUpOf};
+ghost use Rattle.key_order.specs.Join.{IsJoin};
+ghost use Rattle.merkle_wire.specs.SessionLaws.{FailsToExchange, IsExchange};
+ghost use Rattle.key_order.specs.Map.{IsMap};
 
 use crate::answering::{AnswerError, answer};
 use crate::catching_up::{CatchingUp, Next};
@@ -68,17 +73,19 @@ pub fn catch_up_by_messages<
     peer: &mut Replica<K, V, H, N>,
 ) -> Result<usize, MessagesError>
     // New rows of the peer are joined; while digests are faithful, all that this side was missing.
-    ensures joined { IfOk result (JoinsNewRows H.laws replica.old peer.old replica.new) }
+    ensures joined { IfOk result (λ joined. HasJoined H.laws (side replica.old) (side peer.old) joined replica.new.rows) }
 
     // So it is a catch-up then, and leaves the join of both sides' rows.
-    ensures catch_up { IfOk result (CatchesUpWhileFaithful H.laws replica.old peer.old replica.new) }
-    ensures join { OnOk result (BringsTheJoin H.laws replica.old peer.old replica.new) }
+    ensures catch_up { IfOk result (λ done. IsFaithfulSession H.laws (side replica.old) (side peer.old)
+        → IsCatchUpOf H.laws (side replica.old) (side peer.old) done replica.new.rows) }
+    ensures join { OnOk result (IsFaithfulSession H.laws (side replica.old) (side peer.old)
+        → IsJoin K.cmp V.eq V.join_of replica.old.rows peer.old.rows replica.new.rows) }
 
     // Refused, it has joined no row, or the first ones. For its settings it is refused only where the two are not set alike.
-    ensures refused { IfErr result (EndsEarly H.laws replica.old peer.old replica.new) }
+    ensures refused { IfErr result (λ error. IsMessagesRefused H.laws (side replica.old) (side peer.old) error replica.new.rows) }
 
     // Between sides that are set alike and whose rows can be told it ends early only when out of memory.
-    ensures memory { IfErr result (LacksMemory H.laws replica.old peer.old K.is_value V.is_value) }
+    ensures memory { IfErr result (IsForMemory H.laws (side replica.old) (side peer.old) K.is_value V.is_value) }
 
     ensures peer_rows { peer.new.rows ≡ peer.old.rows }
     ensures settings { SameSettings replica.old.tree replica.new.tree }
@@ -159,9 +166,9 @@ fn rows_by_messages<K: Key + Decode, V: Join + Decode, H: RowHasher<N, K, V>, co
     replica: &mut Replica<K, V, H, N>,
     peer: &mut Replica<K, V, H, N>,
 ) -> Result<Vec<(K, V)>, MessagesError>
-    ensures brought { IfOk result (BringsRows H.laws replica.old peer.old) }
+    ensures brought { IfOk result (λ rows. AreBrought H.laws (side replica.old) (side peer.old) rows.items) }
     ensures early { IfErr result (EndsBeforeJoin H.laws (side replica.old) (side peer.old)) }
-    ensures memory { IfErr result (LacksMemory H.laws replica.old peer.old K.is_value V.is_value) }
+    ensures memory { IfErr result (IsForMemory H.laws (side replica.old) (side peer.old) K.is_value V.is_value) }
     ensures rows { replica.new.rows ≡ replica.old.rows }
     ensures settings { SameSettings replica.old.tree replica.new.tree }
     ensures peer_rows { peer.new.rows ≡ peer.old.rows }
@@ -188,7 +195,8 @@ fn begin_without_limits<K: Key + Decode, V: Join + Decode, H: RowHasher<N, K, V>
     alloc: Global,
     replica: &Replica<K, V, H, N>,
 ) -> Result<(CatchingUp<K, V>, Vec<u8>), AllocError>
-    ensures settings { IfOk result (λ begun. AsksForOwnRoot ⟦<H as Hasher<N, K>>⟧.digest_of N replica.now begun.0.asked) }
+    ensures settings { IfOk result (λ begun. AsksForRoot (⟦<H as Hasher<N, K>>⟧.digest_of replica.now.tree.hasher) N
+        (digests_of replica.now.tree) begun.0.asked) }
     ensures asks { IfOk result (λ begun. begun.1.items ≡ question_bytes K.encoding begun.0.asked) }
     ensures keys { IfOk result (λ begun. IsQuestion (IsKeyOf K.cmp replica.now.rows) begun.0.asked) }
     ensures nothing { IfOk result (λ begun. (begun.0.found ≡ nothing) × (begun.0.rounds ≡ 0)) }
@@ -198,7 +206,7 @@ fn begin_without_limits<K: Key + Decode, V: Join + Decode, H: RowHasher<N, K, V>
     Ok((session.within(Limits::none()), message))
 }
 
-/// One exchange of messages: the peer's reply is taken. What comes next covers what the catch-up covered, by any tree of the peer's map.
+/// One exchange of messages: the peer's reply is taken.
 fn exchange<K: Key + Decode, V: Join + Decode, H: RowHasher<N, K, V>, const N: usize>(
     alloc: Global,
     replica: &mut Replica<K, V, H, N>,
@@ -207,17 +215,11 @@ fn exchange<K: Key + Decode, V: Join + Decode, H: RowHasher<N, K, V>, const N: u
     message: Vec<u8>,
 ) -> Result<Next<K, V>, MessagesError>
     requires asks { message.items ≡ question_bytes K.encoding session.asked }
-    requires own { TellsOwn H.laws N (side replica.now) session.asked }
-    requires keys { HasKeysOfSides H.laws (side replica.now) (side peer.now) session }
     requires limits { session.left ≡ no_limits }
-    ensures limits { IfOk result IsUnlimited }
-    ensures own { IfOk result (TellsOwnNext H.laws N (side replica.old)) }
-    ensures covers { IfOk result (GoesOnCovering H.laws N K.encoding replica.old peer.old session) }
-    ensures keys { IfOk result (KeepsKeys H.laws N (side peer.old) (side replica.old)) }
-    ensures steady { IfOk result (StaysSteady H.laws N (side peer.old) session) }
-    ensures less { IfOk result (GoesDown H.laws N (side peer.old) session) }
-    ensures early { IfErr result (EndsBeforeJoin H.laws (side replica.old) (side peer.old)) }
-    ensures memory { IfErr result (EndsForMemory H.laws N peer.old replica.old K.is_value V.is_value session) }
+    ensures exchanged { IfOk result (IsExchange H.laws N K.encoding V.encoding (side replica.old) (side peer.old) session) }
+    ensures ascending { IfOk result (λ next. IsMap K.cmp replica.old.rows × IsMap K.cmp peer.old.rows) }
+    ensures limits { IfOk result (IfAsks (λ session. session.left ≡ no_limits)) }
+    ensures failed { IfErr result (FailsToExchange H.laws N K.encoding V.encoding (side replica.old) (side peer.old) K.is_value V.is_value session) }
     ensures rows { replica.new.rows ≡ replica.old.rows }
     ensures settings { SameSettings replica.old.tree replica.new.tree }
     ensures peer_rows { peer.new.rows ≡ peer.old.rows }

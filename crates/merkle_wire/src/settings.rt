@@ -1,12 +1,13 @@
 //! What the digests of two sides rest on, which the first message tells: sides whose settings differ have no digest in common.
-ghost use Rattle.std.specs.Prelude.{◌≡◌, OnOk, IfOk, IfErr, MatchOption, IsTrue, ◌↔◌};
+ghost use Rattle.std.specs.Prelude.{◌≡◌, ◌≢◌, OnOk, IfOk, IfErr, MatchOption, IsTrue, ◌↔◌};
 ghost use Rattle.merkle_bytes.specs.Encodings.{AddsBytes};
-ghost use Rattle.merkle_bytes.specs.Reading.{Reads};
+ghost use Rattle.merkle_bytes.specs.Reading.{Reads, BeginsWithNo};
 ghost use Rattle.merkle_bytes.specs.Refusals.{IsMalformed, IsRefusal};
 ghost use Rattle.merkle_bytes.specs.Options.{IsOption};
 ghost use Rattle.merkle_tree_theory.specs.State.{map_of};
-ghost use Rattle.merkle_wire.specs.Settings.{format_byte, settings_bytes, AreOwnSettings, AreSettings, AreSettingsBy, IsDigested, IsNoFormat, NoSettings};
-ghost use Rattle.merkle_wire.specs.Steady.{IsKeyOf};
+ghost use Rattle.merkle_tree_theory.specs.declared.page_format.PageFormat.{PageFormat as PageFormatOf};
+ghost use Rattle.merkle_wire.specs.Settings.{format_byte, settings_bytes, AreSettings, AreSettingsBy, IsDigested, AreOwnSettings};
+ghost use Rattle.merkle_wire.specs.Sessions.{IsKeyOf};
 
 use crate::kept_tree::{KeptTree, first_key};
 use merkle_bytes::{Decode, Encode, Expected, ReadError, Reader, encode_count};
@@ -41,7 +42,7 @@ fn byte_of(format: PageFormat) -> u8
 
 /// The page format of a byte.
 fn format_of(byte: u8) -> Option<PageFormat>
-    ensures { MatchOption result (IsNoFormat byte) (λ format. byte ≡ format_byte format) }
+    ensures { MatchOption result ((format : PageFormatOf) → byte ≢ format_byte format) (λ format. byte ≡ format_byte format) }
 {
     match byte {
         1 => Some(PageFormat::V1),
@@ -70,7 +71,7 @@ pub(crate) fn decode_settings<K: Decode>(reader: &mut Reader<'_>) -> Result<Sett
     ensures settings { IfOk result (AreSettings K.is_value) }
     ensures total { reader.new.total ≡ reader.old.total }
     ensures refused { IfErr result (IsRefusal reader.old.total reader.old.left.now) }
-    ensures malformed { IfErr result (λ error. IsMalformed error → NoSettings K.encoding K.is_value reader.old.left.now) }
+    ensures malformed { IfErr result (λ error. IsMalformed error → BeginsWithNo (settings_bytes K.encoding) (AreSettings K.is_value) reader.old.left.now) }
 {
     let [level_base] = reader.array::<1>()?;
     let [byte] = reader.array::<1>()?;

@@ -2,8 +2,7 @@
 ghost use Rattle.std.specs.Prelude.{◌≡◌, OnOk};
 ghost use Rattle.merkle_wire.specs.Gaps.{between, owned_gap};
 ghost use Rattle.merkle_wire.specs.ItsRows.{ForRowsOf};
-ghost use Rattle.merkle_wire.specs.Reads.{nodes_read, outline_read, outlines_read, page_read};
-ghost use Rattle.merkle_wire.specs.Takes.{AddsBelow, AddsGapsBeside, IsReplyTaken};
+ghost use Rattle.merkle_wire.specs.Reads.{nodes_read, outline_read, outlines_read, AddsBelow, IsReplyTaken, page_read, AddsGapsBeside};
 ghost use Rattle.merkle_wire.specs.Taking.{AddsKeys, AddsRows, AreTaken, IsRootTaken, IsPageTaken};
 
 use crate::coming::{NodeRead, OutlineRead, PageRead};

@@ -2,8 +2,8 @@
 ghost use Rattle.std.specs.Prelude.{◌≡◌, IsTrue, false, map};
 ghost use Rattle.key_order.specs.Map.{IsMap};
 ghost use Rattle.merkle_search_tree.specs.Items.{bound_of};
-ghost use Rattle.merkle_tree_theory.specs.Gap.{everywhere};
-ghost use Rattle.merkle_wire.specs.Coming.{AscendIn, IsBetween};
+ghost use Rattle.merkle_tree_theory.specs.Gap.{everywhere, IsAfter, IsBefore};
+ghost use Rattle.merkle_wire.specs.Coming.{AscendIn};
 ghost use Rattle.merkle_wire.specs.Gaps.{owned_gap};
 
 use crate::gaps::OwnedGap;
@@ -50,8 +50,8 @@ pub fn rows_ascend<K: Ord + Drop, V>(rows: &[(K, V)]) -> bool
 
 /// Whether the key is above one bound and below the other.
 fn is_between<K: Ord>(key: &K, after: Option<&K>, before: &Option<K>) -> bool
-    ensures inside { IsTrue result → IsBetween K.cmp (bound_of after.entry) before.now key.now }
-    ensures outside { result ≡ false → ¬ IsBetween K.cmp (bound_of after.entry) before.now key.now }
+    ensures inside { IsTrue result → IsAfter K.cmp (bound_of after.entry) key.now × IsBefore K.cmp before.now key.now }
+    ensures outside { result ≡ false → ¬ (IsAfter K.cmp (bound_of after.entry) key.now × IsBefore K.cmp before.now key.now) }
 {
     if let Some(bound) = after {
         if !(*bound < *key) {

@@ -1,7 +1,6 @@
 //! What a catch-up has found and is still to ask for.
-ghost use Rattle.std.specs.Prelude.{◌≡◌, ◌++◌, ◌∷◌, [], length, IfOk, OnOk};
+ghost use Rattle.std.specs.Prelude.{◌≡◌, ◌++◌, ◌∷◌, [], cond, not, length, IfOk, OnOk};
 ghost use Rattle.merkle_wire.specs.Asking.{IsAskedOf};
-ghost use Rattle.merkle_wire.specs.Found.{AddsKeyUnless, AddsRowUnless};
 ghost use Rattle.merkle_wire.specs.Gaps.{owned_gap};
 
 use crate::gaps::OwnedGap;
@@ -138,7 +137,7 @@ impl<K: Drop, V: Drop> Work<K, V> {
 
     /// Takes a row that came, unless this side has it.
     pub(crate) fn take_row(&mut self, row: (K, V), is_there: bool) -> Result<(), AllocError>
-        ensures { OnOk result (AddsRowUnless is_there row self.old self.new) }
+        ensures { OnOk result (self.new ≡ record self.old { rows = self.old.rows ++ cond (not is_there) (row ∷ []) [] }) }
     {
         self.came = self.came.with(!is_there);
         if !is_there {
@@ -149,7 +148,7 @@ impl<K: Drop, V: Drop> Work<K, V> {
 
     /// Takes a key that came with a digest, unless this side has it with that.
     pub(crate) fn take_key(&mut self, wanted: Wanted<K>, is_there: bool) -> Result<(), AllocError>
-        ensures { OnOk result (AddsKeyUnless is_there wanted.key self.old self.new) }
+        ensures { OnOk result (self.new ≡ record self.old { wanted = self.old.wanted ++ cond (not is_there) (wanted.key ∷ []) [] }) }
     {
         self.digested = self.digested.with(!is_there);
         if !is_there {

@@ -2,14 +2,14 @@ use Rattle.std.proofs.Common.{◌≡◌, sym, subst}
 use Rattle.key_order.specs.Map.{SameMap}
 use Rattle.merkle_replica.specs.Contents.{tree_map}
 use Rattle.merkle_replica.proofs.SideLaws.{laws_of}
-use Rattle.merkle_wire.specs.ItsRows.{side_with}
 use Rattle.examples.proofs.exchanging.exchange_by_trees.Goals as goal
+use Rattle.merkle_wire.specs.ItsRows.{digests_of, side_of}
 
 pub returns-in-Ok-take_by-clause-exchanged : goal.returns-in-Ok-take_by-clause-exchanged
 returns-in-Ok-take_by-clause-exchanged g c = rw g.met.H.RowHasher.laws_are (λ own of.
     let laws = laws_of g.K.Ord.cmp g.K.KeyBytes.bytes_of g.H.Hasher-1.digest_of g.V.PartialEq.eq g.V.Join.join_of g.H.Hasher-2.digest_of in
     let rows = g.R.KeptRows.rows c.args.rows.now in
-    let peer = side_with c.args.peer.now rows in
+    let peer = side_of (digests_of c.args.peer.now) rows in
     let tree = c.answer_by.new.side in
     let settings = c.answer_by.ensures.settings in
     let (question, read, is) = (rw g.met.H.RowHasher.laws_are at c.in-Ok.ensures.answered) in

@@ -2,8 +2,8 @@ use Rattle.std.proofs.Common.{subst, sym}
 use Rattle.std.proofs.lemmas.Result.{IfErr-weaker, IfOk-weaker}
 use Rattle.merkle_wire.specs.Faults.{IsUnread, OfMessage}
 use Rattle.merkle_wire.specs.Questions.{AsksNothing}
-use Rattle.merkle_wire.specs.Replies.{EndsWithin, IsAnsweredBy, IsAnsweredWithin, IsReplyBy, RefusesOthers, RefusesQuestionOfOthers}
-use Rattle.merkle_wire.proofs.OfMessages.{of_message_weaker}
+use Rattle.merkle_wire.specs.Replies.{EndsWithin, IsAnsweredBy, IsAnsweredWithin, IsReplyBy}
+use Rattle.merkle_wire.proofs.OfMessages.{RefusesMessage, RefusesQuestion, of_message_weaker}
 use Rattle.merkle_wire.proofs.answering.answer_by.Goals as goal
 
 pub returns-in-Ok-clause-answered : goal.returns-in-Ok-clause-answered
@@ -14,7 +14,7 @@ returns-in-Ok-clause-answered g c =
     let hashed = g.S.KeptSide.contents c.hash.new.self c.args.beside.now in
     let after = g.S.KeptSide.contents c.reply_to.new.side c.args.beside.now in
     IfOk-weaker c.reply_to.result (by hashed.rows hashed.tree question)
-    (IsAnsweredBy g.H.RowHasher.laws g.row.N g.K.Encode.encoding g.V.Encode.encoding before after c.args.message.now)
+    (IsAnsweredBy g.H.RowHasher.laws g.row.N g.K.Encode.encoding g.V.Encode.encoding before.rows after.tree c.args.message.now)
     (λ reply is. (
       question,
       c.in-Ok.ensures.asks,
@@ -35,10 +35,10 @@ returns-in-Ok-clause-malformed g c =
 
 pub returns-in-Ok-clause-other_settings : goal.returns-in-Ok-clause-other_settings
 returns-in-Ok-clause-other_settings g c =
-    let refuses = RefusesQuestionOfOthers g.H.RowHasher.laws g.row.N in
+    let refuses = RefusesQuestion g.H.RowHasher.laws g.row.N in
     let hashed = g.S.KeptSide.contents c.hash.new.self c.args.beside.now in
     let after = g.S.KeptSide.contents c.reply_to.new.side c.args.beside.now in
-    let others = RefusesOthers g.H.RowHasher.laws g.row.N g.K.Encode.encoding after.tree c.args.message.now in
+    let others = RefusesMessage g.H.RowHasher.laws g.row.N g.K.Encode.encoding after.tree c.args.message.now in
     IfErr-weaker c.reply_to.result (OfMessage (refuses hashed.tree c.in-Ok.question)) (OfMessage others)
     (λ fault. of_message_weaker (refuses hashed.tree c.in-Ok.question) others
     (λ error no of. (c.in-Ok.question, c.in-Ok.ensures.asks, subst (λ side. refuses side.tree c.in-Ok.question error) (sym c.reply_to.ensures.kept) no of)) fault) c.reply_to.ensures.others

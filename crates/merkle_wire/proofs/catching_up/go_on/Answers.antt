@@ -1,7 +1,7 @@
-use Rattle.std.proofs.Common.{length, ap, subst, sym, ◌∙◌}
+use Rattle.std.proofs.Common.{length, ap, subst, sym, ◌∙◌, ◌≤◌}
 use Rattle.std.proofs.lemmas.Result.{IfErr-weaker, IfOk-weaker, err_from_is_err_and}
 use Rattle.merkle_wire.specs.Limits.{Allows}
-use Rattle.merkle_wire.specs.Next.{AsksFew, GoesOn, HasLeft, IsAsked, IsCame, IsEnded, IsTwice}
+use Rattle.merkle_wire.specs.Next.{GoesOn, HasLeft, IsAsked, IsCame, IsEnded, IsTwice, IfAsks}
 use Rattle.merkle_wire.proofs.NextMessages.{asked_goes_on, came_few, came_goes_on, outlines_of_some, twice_ends}
 use Rattle.merkle_wire.proofs.WithinLimits.{asked_allowed, came_within}
 use Rattle.merkle_wire.proofs.catching_up.go_on.Goals as goal
@@ -33,7 +33,9 @@ returns-in-None-clause-goes_on g c =
     (λ next came. came_goes_on g.K.Ord.cmp g.K.Encode.encoding c.args.rounds c.args.work c.next_question.new.self c.into_rows.result.items next done c.into_rows.ensures came) c.came.ensures.came
 
 pub returns-in-None-clause-few : goal.returns-in-None-clause-few
-returns-in-None-clause-few g c = IfOk-weaker c.came.result (IsCame g.K.Ord.cmp c.into_rows.result.items) AsksFew (λ next. came_few g.K.Ord.cmp c.into_rows.result.items next) c.came.ensures.came
+returns-in-None-clause-few g c =
+    IfOk-weaker c.came.result (IsCame g.K.Ord.cmp c.into_rows.result.items) (IfAsks (λ session. session.rounds ≤ 256))
+    (λ next. came_few g.K.Ord.cmp c.into_rows.result.items next) c.came.ensures.came
 
 pub ask-requires-clause-limits : goal.ask-requires-clause-limits
 ask-requires-clause-limits g c = asked_allowed c.args.left.rows c.in-Some.question c.args.work c.next_question.new.self (rw c.in-Some.is at c.in_ok-next_question.ensures) c.requires.limits

@@ -2,14 +2,16 @@ use Rattle.std.proofs.Common.{◌++◌, [], get_or, ap, subst, ◌∙◌, arith}
 use Rattle.std.proofs.lemmas.Result.{err_from_is_err_and}
 use Rattle.std.specs.List.{flat_map}
 use Rattle.merkle_bytes.specs.Runs.{bound_key, run_bytes, row_behind, row_key}
-use Rattle.merkle_wire.specs.Outlines.{keys_told, keys_among, pages_bytes}
-use Rattle.merkle_wire.specs.Reads.{nodes_read, page_digests, page_keys}
-use Rattle.merkle_wire.specs.Unfit.{NoNodes, NoPage, NoRows}
+use Rattle.merkle_wire.specs.Outlines.{keys_told, keys_among, pages_bytes, nodes_bytes}
+use Rattle.merkle_wire.specs.Reads.{nodes_read, below_keys, digests_beside}
 use Rattle.merkle_wire.proofs.Exchanges.{key_tells}
 use Rattle.merkle_wire.proofs.Fronts.{refused_for, refused_unread}
 use Rattle.merkle_wire.proofs.OutlinesRead.{beside_all, kind_and_rest, kind_read}
 use Rattle.merkle_wire.proofs.Unfit.{no_outline, no_outline-none}
 use Rattle.merkle_wire.proofs.coming.read_outline.Goals as goal
+use Rattle.merkle_bytes.specs.Reading.{BeginsWithNo}
+use Rattle.merkle_wire.specs.Fit.{AreNodesIn, NoRows, NoPage}
+use Rattle.merkle_wire.specs.Gaps.{owned_gap}
 
 pub returns-then-kind-eq0-clause-read : goal.returns-then-kind-eq0-clause-read
 returns-then-kind-eq0-clause-read g c =
@@ -31,7 +33,8 @@ pub returns-then-with_pages-clause-read : goal.returns-then-with_pages-clause-re
 returns-then-with_pages-clause-read g c =
     let last = bound_key g.K.Encode.encoding [] in
     let page = c.in_ok-page.page in
-    kind_and_rest c.in_ok-kind.field-0 2 (λ run. page.digest ++ (keys_told g.K.Encode.encoding run (page_keys page) ++ pages_bytes (page_digests page))) (last c.args.gap.now.after) c.in_ok-run.run'
+    kind_and_rest c.in_ok-kind.field-0 2 (λ run. page.digest ++ (keys_told g.K.Encode.encoding run (below_keys page.below.items) ++ pages_bytes (digests_beside page.below.items page.last)))
+    (last c.args.gap.now.after) c.in_ok-run.run'
     c.args.reader.now.left.now c.array.new.self.left.now c.read_page.new.reader.left.now c.in_ok-kind.ensures.read c.in_ok-kind.ensures.len c.if-kind-eq2.true
     c.in_ok-page.ensures.read (c.in_ok-run.ensures ∙ ap last c.as_ref.ensures.value)
 
@@ -74,7 +77,7 @@ returns-in_err-nodes-clause-refused g c =
     c.args.digest_bytes c.args.with_pages c.args.gap.now c.args.reader.now.left.now (get_or kind.field-0 0 0) c.array.new.self.left.now
     (kind_read kind.field-0 c.args.reader.now.left.now c.array.new.self.left.now kind.ensures.read kind.ensures.len)
     (λ zero. absurd (omega (arith, c.if-kind-eq1.true, zero)))
-    (λ one. subst (λ run. NoNodes g.K.Ord.cmp g.K.Decode.is_value g.K.Encode.encoding c.args.digest_bytes run c.args.gap.now c.array.new.self.left.now)
+    (λ one. subst (λ run. BeginsWithNo (nodes_bytes g.K.Encode.encoding run) (AreNodesIn g.K.Ord.cmp g.K.Decode.is_value c.args.digest_bytes (owned_gap c.args.gap.now)) c.array.new.self.left.now)
     (c.in_ok-run.ensures ∙ ap last c.as_ref.ensures.value) none)
     (λ two with. absurd (omega (arith, c.if-kind-eq1.true, two)))) c.in_err-nodes.ensures.refused)
 

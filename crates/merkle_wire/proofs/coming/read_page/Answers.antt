@@ -1,12 +1,11 @@
-use Rattle.std.proofs.Common.{◌≡◌, ◌≢◌, [], ◌+◌, ◌++◌, map, sym, ap, subst, ◌∙◌}
+use Rattle.std.proofs.Common.{◌≡◌, ◌≢◌, [], ◌+◌, ◌++◌, map, sym, ap, subst, ◌∙◌, length}
 use Rattle.std.proofs.lemmas.List.{length-map}
 use Rattle.std.proofs.lemmas.Result.{err_from_is_err_and}
 use Rattle.key_order.specs.Order.{Same}
-use Rattle.merkle_wire.specs.Coming.{AscendIn}
+use Rattle.merkle_wire.specs.Coming.{AscendIn, IsPageDigest}
 use Rattle.merkle_wire.specs.Gaps.{owned_gap}
 use Rattle.merkle_wire.specs.Outlines.{keys_told, pages_bytes}
 use Rattle.merkle_wire.specs.Reads.{digests_beside}
-use Rattle.merkle_wire.specs.Unfit.{NoPageDigests}
 use Rattle.merkle_wire.proofs.Exchanges.{key_tells}
 use Rattle.merkle_wire.proofs.Fronts.{refused_for, refused_unread}
 use Rattle.merkle_wire.proofs.WrittenKeys.{told_as_keys}
@@ -15,6 +14,8 @@ use Rattle.merkle_wire.proofs.OutlinesRead.{three_read}
 use Rattle.merkle_wire.proofs.Unfit.{no_keys, no_page-empty, no_page-keys, no_page-outside, no_page-pages}
 use Rattle.merkle_wire.proofs.coming.read_page.Given.{Over}
 use Rattle.merkle_wire.proofs.coming.read_page.Goals as goal
+use Rattle.merkle_bytes.specs.Reading.{BeginsWithNo}
+use Rattle.std.specs.List.{AllByRecursion}
 
 -- bytes tell keys
 keys_tell : (g : Over) (x y : g.row.K.Denot) → g.K.Encode.encoding x ≡ g.K.Encode.encoding y → Same g.K.Ord.cmp x y
@@ -74,4 +75,5 @@ returns-in_err-below-clause-refused g c =
     no_page-pages g.K.Ord.cmp g.met.K.Ord.total g.K.Encode.encoding (keys_tell g) g.K.Decode.is_value c.args.run.now c.args.gap.now c.args.reader.now.left.now
     c.in_ok-digest.digest c.array.new.self.left.now c.in_ok-digest.ensures.read c.in_ok-digest.ensures.len
     keys behind (c.in_ok-keys.ensures.read ∙ ap (λ t. t ++ behind) (told_as_keys g.K.Encode.encoding c.args.run.now c.in_ok-keys.keys.items))
-    (subst (λ n. NoPageDigests (n + 1) behind) (sym (length-map c.in_ok-keys.keys.items (λ w. w.key))) none)) c.in_err-below.ensures.refused)
+    (subst (λ n. BeginsWithNo pages_bytes (λ pages. (length pages ≡ (n + 1)) × AllByRecursion IsPageDigest pages) behind)
+    (sym (length-map c.in_ok-keys.keys.items (λ w. w.key))) none)) c.in_err-below.ensures.refused)

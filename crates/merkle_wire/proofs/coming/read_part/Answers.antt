@@ -1,12 +1,12 @@
 use Rattle.std.proofs.Common.{◌∷◌, ◌++◌, [], cond, true, false, refl, ap, sym, subst, ◌∙◌, append-nil, inl, inr}
 use Rattle.std.proofs.lemmas.Result.{err_from_is_err_and}
 use Rattle.merkle_bytes.specs.Runs.{bound_key, row_behind, row_key, run_bytes}
-use Rattle.merkle_wire.specs.Unfit.{NoRows}
 use Rattle.merkle_wire.proofs.Exchanges.{key_tells}
 use Rattle.merkle_wire.proofs.Fronts.{refused_for, refused_unread}
 use Rattle.merkle_wire.proofs.PartsRead.{part_read}
 use Rattle.merkle_wire.proofs.Unfit.{no_part, no_part-empty, no_part-flag}
 use Rattle.merkle_wire.proofs.coming.read_part.Goals as goal
+use Rattle.merkle_wire.specs.Fit.{NoRows}
 
 pub returns-then-branch-clause-read : goal.returns-then-branch-clause-read
 returns-then-branch-clause-read g c =

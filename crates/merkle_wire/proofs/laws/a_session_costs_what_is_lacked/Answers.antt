@@ -9,7 +9,7 @@ use Rattle.merkle_wire.proofs.SteadySessions.{session_pays, session_pays_for_key
 use Rattle.merkle_wire.proofs.laws.a_session_costs_what_is_lacked.Goals as goal
 
 pub returns-clause-pages : goal.returns-clause-pages
-returns-clause-pages g c = rw g.met.H.RowHasher.laws_are (λ local peer up up_peer small begun last more next b so_far e.
+returns-clause-pages g c = rw g.met.H.RowHasher.laws_are (λ local peer up up_peer small begun last more b so_far next e.
     let laws = laws_of g.K.Ord.cmp g.K.KeyBytes.bytes_of g.H.Hasher-1.digest_of g.V.PartialEq.eq g.V.Join.join_of g.H.Hasher-2.digest_of in
     let tell = tells laws g.K.Encode.encoding g.V.Encode.encoding g.K.PartialEq.eq g.met.K.Ord.matches_eq g.met.K.Decode.told g.met.V.Decode.told in
     let one_tree = c.a_map_has_one_tree.ensures in
@@ -18,7 +18,7 @@ returns-clause-pages g c = rw g.met.H.RowHasher.laws_are (λ local peer up up_pe
     (own_tree laws peer) (one_tree.defined peer.hasher peer.base (tree_map laws peer)) begun last more next b so_far e)
 
 pub returns-clause-keys : goal.returns-clause-keys
-returns-clause-keys g c = rw g.met.H.RowHasher.laws_are (λ local peer up up_peer small begun last more next b so_far e.
+returns-clause-keys g c = rw g.met.H.RowHasher.laws_are (λ local peer up up_peer small begun last more b so_far next e.
     let laws = laws_of g.K.Ord.cmp g.K.KeyBytes.bytes_of g.H.Hasher-1.digest_of g.V.PartialEq.eq g.V.Join.join_of g.H.Hasher-2.digest_of in
     let tell = tells laws g.K.Encode.encoding g.V.Encode.encoding g.K.PartialEq.eq g.met.K.Ord.matches_eq g.met.K.Decode.told g.met.V.Decode.told in
     let one_tree = c.a_map_has_one_tree.ensures in

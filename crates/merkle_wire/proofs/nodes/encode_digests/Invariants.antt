@@ -1,7 +1,7 @@
 use Rattle.std.proofs.Common.{◌≡◌, ◌++◌, take}
 use Rattle.std.specs.List.{flat_map}
-use Rattle.merkle_wire.specs.Nodes.{node_pairs}
 use Rattle.merkle_wire.proofs.nodes.encode_digests.Given as goal
+use Rattle.merkle_wire.specs.Outlines.{node_pairs}
 
 -- the digests of the first nodes are written
 abbrev pub invariant-nodes : goal.invariant-nodes

@@ -2,8 +2,7 @@ use Rattle.std.proofs.Common.{◌++◌, length, take, ap, ◌∙◌}
 use Rattle.std.proofs.lemmas.List.{map-append}
 use Rattle.merkle_bytes.specs.Counts.{count_bytes}
 use Rattle.merkle_bytes.specs.Keys.{key_behind}
-use Rattle.merkle_wire.specs.Nodes.{node_pairs}
-use Rattle.merkle_wire.specs.Outlines.{keys_among}
+use Rattle.merkle_wire.specs.Outlines.{keys_among, node_pairs}
 use Rattle.merkle_bytes.proofs.Listed.{written_next}
 use Rattle.merkle_wire.proofs.ItemsMore.{map_more}
 use Rattle.merkle_wire.proofs.nodes.encode_keys.Goals as goal

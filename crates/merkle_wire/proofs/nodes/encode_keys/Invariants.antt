@@ -2,8 +2,7 @@ use Rattle.std.proofs.Common.{◌≡◌, ◌++◌, length, take}
 use Rattle.merkle_bytes.specs.Counts.{count_bytes}
 use Rattle.merkle_bytes.specs.Keys.{key_behind}
 use Rattle.merkle_bytes.specs.Runs.{entries_bytes, state_behind}
-use Rattle.merkle_wire.specs.Nodes.{node_pairs}
-use Rattle.merkle_wire.specs.Outlines.{keys_among}
+use Rattle.merkle_wire.specs.Outlines.{keys_among, node_pairs}
 use Rattle.merkle_wire.proofs.nodes.encode_keys.Given as goal
 
 -- the keys of the first nodes are written

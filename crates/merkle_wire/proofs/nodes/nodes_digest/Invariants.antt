@@ -2,8 +2,8 @@ use Rattle.std.proofs.Common.{map, take}
 use Rattle.std.specs.List.{flat_map}
 use Rattle.merkle_digest.specs.SipHash.{zero_key}
 use Rattle.merkle_digest.specs.Sip24.{Holds}
-use Rattle.merkle_wire.specs.Nodes.{node_pairs}
 use Rattle.merkle_wire.proofs.nodes.nodes_digest.Given as goal
+use Rattle.merkle_wire.specs.Outlines.{node_pairs}
 
 -- the digests of the first nodes are written
 abbrev pub invariant-nodes : goal.invariant-nodes

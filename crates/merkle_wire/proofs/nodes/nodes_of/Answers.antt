@@ -1,8 +1,7 @@
 use Rattle.std.proofs.Common.{◌++◌, ◌∷◌, [], take, ap, sym, ◌∙◌, append-nil}
 use Rattle.std.proofs.lemmas.List.{map-append}
 use Rattle.merkle_search_tree.specs.Items.{item, items}
-use Rattle.merkle_wire.specs.Nodes.{node_pairs}
-use Rattle.merkle_wire.specs.Outlines.{nodes_among}
+use Rattle.merkle_wire.specs.Outlines.{nodes_among, node_pairs}
 use Rattle.merkle_wire.proofs.ItemsMore.{map_more, nodes_among-append}
 use Rattle.merkle_wire.proofs.nodes.nodes_of.Goals as goal
 use Rattle.merkle_wire.proofs.nodes.nodes_of.Goals.{in-Node+in_ok-push, in_default}

@@ -1,7 +1,6 @@
 use Rattle.std.proofs.Common.{◌≡◌, take}
 use Rattle.merkle_search_tree.specs.Items.{items}
-use Rattle.merkle_wire.specs.Nodes.{node_pairs}
-use Rattle.merkle_wire.specs.Outlines.{nodes_among}
+use Rattle.merkle_wire.specs.Outlines.{nodes_among, node_pairs}
 use Rattle.merkle_wire.proofs.nodes.nodes_of.Given as goal
 
 -- the nodes among the first items are listed

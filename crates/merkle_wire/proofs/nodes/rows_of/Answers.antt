@@ -1,7 +1,6 @@
 use Rattle.std.proofs.Common.{◌+◌, take, ap, sym, subst, ◌∙◌}
 use Rattle.std.proofs.lemmas.List.{map-append}
-use Rattle.merkle_wire.specs.Nodes.{node_pairs}
-use Rattle.merkle_wire.specs.Outlines.{keys_among}
+use Rattle.merkle_wire.specs.Outlines.{keys_among, node_pairs}
 use Rattle.merkle_wire.proofs.FoundRows.{AreFound, found_more}
 use Rattle.merkle_wire.proofs.ItemsMore.{map_more}
 use Rattle.merkle_wire.proofs.nodes.rows_of.Goals as goal

@@ -1,6 +1,5 @@
 use Rattle.std.proofs.Common.{take}
-use Rattle.merkle_wire.specs.Nodes.{node_pairs}
-use Rattle.merkle_wire.specs.Outlines.{keys_among}
+use Rattle.merkle_wire.specs.Outlines.{keys_among, node_pairs}
 use Rattle.merkle_wire.proofs.FoundRows.{AreFound}
 use Rattle.merkle_wire.proofs.nodes.rows_of.Given as goal
 

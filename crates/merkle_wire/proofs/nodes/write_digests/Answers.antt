@@ -1,7 +1,6 @@
 use Rattle.std.proofs.Common.{◌++◌, ◌∷◌, [], ap, ◌∙◌, append_assoc}
 use Rattle.std.specs.List.{flat_map}
-use Rattle.merkle_wire.specs.Nodes.{node_pairs}
-use Rattle.merkle_wire.specs.Outlines.{keys_told, keys_among}
+use Rattle.merkle_wire.specs.Outlines.{keys_told, keys_among, node_pairs}
 use Rattle.merkle_wire.proofs.nodes.write_digests.Goals as goal
 
 pub returns : goal.returns

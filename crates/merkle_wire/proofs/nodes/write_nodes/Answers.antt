@@ -1,8 +1,6 @@
 use Rattle.std.proofs.Common.{◌++◌, ◌∷◌, refl, ap, ap₂, ◌∙◌}
 use Rattle.merkle_bytes.specs.Counts.{count_bytes}
-use Rattle.merkle_wire.specs.Nodes.{node_pairs}
-use Rattle.merkle_wire.specs.Outlines.{rows_told, digests_told}
-use Rattle.merkle_wire.specs.Told.{digests_bytes}
+use Rattle.merkle_wire.specs.Outlines.{rows_told, digests_told, nodes_bytes, node_pairs}
 use Rattle.merkle_wire.proofs.nodes.write_nodes.Goals as goal
 
 pub returns-in_ok-write_rows-in-Some : goal.returns-in_ok-write_rows-in-Some
@@ -14,5 +12,5 @@ pub returns-in_ok-write_digests-in-None : goal.returns-in_ok-write_digests-in-No
 returns-in_ok-write_digests-in-None g c = (
   digests_told (node_pairs c.args.nodes.now),
   refl,
-  c.in_ok-write_digests-in-None.ensures ∙ ap (λ last. c.args.bytes.now.items ++ digests_bytes g.K.Encode.encoding last c.args.nodes.now) c.in_ok-run-in-None.ensures,
+  c.in_ok-write_digests-in-None.ensures ∙ ap (λ last. c.args.bytes.now.items ++ 1 ∷ nodes_bytes g.K.Encode.encoding last (node_pairs c.args.nodes.now)) c.in_ok-run-in-None.ensures,
 )

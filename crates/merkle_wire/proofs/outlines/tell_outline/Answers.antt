@@ -1,7 +1,6 @@
 use Rattle.std.proofs.Common.{◌++◌, ◌∷◌, refl, ap, ap₂, ◌∙◌, None}
 use Rattle.merkle_search_tree.specs.Items.{items}
-use Rattle.merkle_wire.specs.Nodes.{node_pairs}
-use Rattle.merkle_wire.specs.Outlines.{page_told, nodes_digest, keys_among, keys_told, nodes_among, pages_beside, pages_bytes}
+use Rattle.merkle_wire.specs.Outlines.{page_told, node_pairs, nodes_digest, keys_among, keys_told, nodes_among, pages_beside, pages_bytes}
 use Rattle.merkle_wire.proofs.ToldAlone.{told_alone}
 use Rattle.merkle_wire.proofs.outlines.tell_outline.Goals as goal
 

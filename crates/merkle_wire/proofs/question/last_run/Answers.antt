@@ -4,6 +4,7 @@ use Rattle.merkle_bytes.specs.Runs.{run_bytes}
 use Rattle.merkle_bytes.proofs.Listed.{run_told}
 use Rattle.merkle_wire.proofs.NoSettings.{refused_behind}
 use Rattle.merkle_wire.proofs.question.last_run.Goals as goal
+use Rattle.key_order.specs.Map.{last_key}
 
 pub returns-in_err-list-clause-malformed : goal.returns-in_err-list-clause-malformed
 returns-in_err-list-clause-malformed g c =

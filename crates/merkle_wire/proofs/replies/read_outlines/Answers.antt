@@ -13,7 +13,6 @@ use Rattle.merkle_wire.specs.Gaps.{owned_gap}
 use Rattle.merkle_wire.specs.Messages.{front}
 use Rattle.merkle_wire.specs.Outlines.{Outline, outline_bytes}
 use Rattle.merkle_wire.specs.Reads.{outline_read, outlines_read}
-use Rattle.merkle_wire.specs.Replies.{outlines_bytes}
 use Rattle.merkle_wire.specs.declared.gaps.OwnedGap.{OwnedGap}
 use Rattle.merkle_wire.proofs.Exchanges.{key_tells}
 use Rattle.merkle_wire.proofs.Fitting.{fits_lie}
@@ -24,6 +23,8 @@ use Rattle.merkle_wire.proofs.TellingReplies.{Fits, outline_some}
 use Rattle.merkle_wire.proofs.Unfit.{outlines_end}
 use Rattle.merkle_wire.proofs.replies.read_outlines.Given.{Over}
 use Rattle.merkle_wire.proofs.replies.read_outlines.Goals as goal
+use Rattle.merkle_wire.specs.Replies.{outline_over_bytes}
+use Rattle.std.specs.Prelude.{flat_map}
 
 -- the bytes of what is told of the page over a gap
 abbrev told_bytes : (g : Over) → OwnedGap g.row.K.Denot × Outline g.row.K.Denot g.row.V.Denot → List ℕ
@@ -38,7 +39,7 @@ some_told g t =
 pub gaps-init : goal.gaps-init
 gaps-init g c =
     let none = c.new-told.ensures.items in
-    let bytes = outlines_bytes g.K.Encode.encoding g.V.Encode.encoding in
+    let bytes = flat_map (outline_over_bytes g.K.Encode.encoding g.V.Encode.encoding) in
     record {
       left = search rules;
       count = search rules;
@@ -71,7 +72,7 @@ gaps-preserved g c =
     let one : OwnedGap g.row.K.Denot × Outline g.row.K.Denot g.row.V.Denot = (gap, outline_read came.outline) in
     let old = outlines_read c.gaps.told.items in
     let more : outlines_read c.push-else-is_empty.new.self.items ≡ old ++ one ∷ [] = ap outlines_read c.in_ok-push-2.ensures.items ∙ map-append _ c.gaps.told.items ((gap, came.outline) ∷ []) in
-    let bytes = outlines_bytes g.K.Encode.encoding g.V.Encode.encoding in
+    let bytes = flat_map (outline_over_bytes g.K.Encode.encoding g.V.Encode.encoding) in
     let left = c.read_outline.new.reader.left.now in
     let given = one_yielded c.gaps.gap-iterator c.next.new.self c.gaps.yielded c.args.gaps.items gap c.in-Some.ensures.steps kept.left kept.count in
     let none : c.gaps.left.items ≡ [] = none_before c.gaps.left.items c.gaps.reader.left.now kept.once (search rules) in
@@ -91,7 +92,7 @@ pub returns-clause-read : goal.returns-clause-read
 returns-clause-read g c =
     let kept = c.gaps.invariant in
     let told = outlines_read c.gaps.told.items in
-    let bytes = outlines_bytes g.K.Encode.encoding g.V.Encode.encoding in
+    let bytes = flat_map (outline_over_bytes g.K.Encode.encoding g.V.Encode.encoding) in
     let done = all_yielded c.gaps.yielded (into_iter_items c.gaps.gap-iterator) c.args.gaps.items kept.left (sym kept.count ∙ c.in-None.ensures.steps.0) in
     let all = kept.read ∙ ap (λ t. front c.args.kind ++ (bytes told ++ t)) c.in_ok-end.ensures.ended ∙ ap (λ t. front c.args.kind ++ t) (append-nil (bytes told)) in (
       all,
@@ -117,7 +118,7 @@ returns-in_err-outline-clause-refused g c =
     let gaps = c.args.gaps.items in
     let told = outlines_read c.gaps.told.items in
     let left = c.gaps.reader.left.now in
-    let bytes = outlines_bytes g.K.Encode.encoding g.V.Encode.encoding in
+    let bytes = flat_map (outline_over_bytes g.K.Encode.encoding g.V.Encode.encoding) in
     let behind = into_iter_items c.next.new.self in
     let steps : into_iter_items c.gaps.gap-iterator ≡ gap ∷ behind = c.in-Some.ensures.steps.0 in
     let more : left ≢ [] = λ e. some_bytes c.left.result.now (sym c.is_empty.ensures ∙ c.if-is_empty.false) (c.left.ensures ∙ e) in
@@ -141,7 +142,7 @@ returns-in_err-end-clause-refused g c =
     let gaps = c.args.gaps.items in
     let told = outlines_read c.gaps.told.items in
     let left = c.gaps.reader.left.now in
-    let bytes = outlines_bytes g.K.Encode.encoding g.V.Encode.encoding in
+    let bytes = flat_map (outline_over_bytes g.K.Encode.encoding g.V.Encode.encoding) in
     let done = all_yielded c.gaps.yielded (into_iter_items c.gaps.gap-iterator) gaps kept.left (sym kept.count ∙ c.in-None.ensures.steps.0) in
     rw (p.1, p.2) (refused_unread _ c.in_err-end.field-0.0 (λ malformed.
     let more : left ≢ [] = c.in_err-end.ensures.malformed malformed in

@@ -7,7 +7,7 @@ use Rattle.merkle_wire.specs.Coming.{AscendIn}
 use Rattle.merkle_wire.specs.Fit.{IsPartIn}
 use Rattle.merkle_wire.specs.Gaps.{owned_gap}
 use Rattle.merkle_wire.specs.Messages.{front}
-use Rattle.merkle_wire.specs.Replies.{part_bytes, parts_bytes}
+use Rattle.merkle_wire.specs.Replies.{part_bytes, part_in_bytes}
 use Rattle.merkle_wire.proofs.Exchanges.{key_tells}
 use Rattle.merkle_wire.proofs.Fronts.{refused_for, refused_unread}
 use Rattle.merkle_wire.specs.declared.message.Kind.TheVariants.{RowsIn as rows_in_kind}
@@ -19,7 +19,7 @@ use Rattle.merkle_wire.proofs.replies.read_parts.Goals as goal
 
 pub returns-clause-read : goal.returns-clause-read
 returns-clause-read g c =
-    let bytes = parts_bytes g.K.Encode.encoding g.V.Encode.encoding in
+    let bytes = flat_map (part_in_bytes g.K.Encode.encoding g.V.Encode.encoding) in
     let came = rw c.deref.ensures.value at c.in_ok-count.ensures.read.1 in
     let told = came.0 in
     let all : c.in_ok-reader.reader.left.now ≡ bytes told = came.3 ∙ ap (λ t. bytes told ++ t) c.in_ok-end.ensures.ended ∙ append-nil (bytes told) in (
@@ -56,7 +56,7 @@ returns-in_err-end-clause-refused g c =
     let more = c.in_err-end.ensures.malformed malformed in
     let all = rw c.deref.ensures.value at (c.in_ok-count.ensures.all more) in
     says_nothing (λ gap told. IsPartIn g.K.Ord.cmp g.K.Decode.is_value g.V.Decode.is_value (owned_gap gap) told) rows_in_kind gaps c.args.reply.now
-    (parts_bytes g.K.Encode.encoding g.V.Encode.encoding) c.in_ok-reader.reader.left.now c.in_ok-reader.ensures.read
+    (flat_map (part_in_bytes g.K.Encode.encoding g.V.Encode.encoding)) c.in_ok-reader.reader.left.now c.in_ok-reader.ensures.read
     (none_left (λ t. part_bytes g.K.Encode.encoding g.V.Encode.encoding (bound_key g.K.Encode.encoding [] t.0.after) t.1)
     (λ t. AscendIn g.K.Ord.cmp (owned_gap t.0) (map (λ r. r.0) t.1.rows)) (λ t. IsPartIn g.K.Ord.cmp g.K.Decode.is_value g.V.Decode.is_value (owned_gap t.0) t.1)
     (λ t. part_some g.K.Ord.cmp g.V.PartialEq.eq g.K.Encode.encoding g.V.Encode.encoding

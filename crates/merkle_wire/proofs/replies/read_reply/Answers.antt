@@ -63,25 +63,25 @@ returns-in_err-told-in-Outlines-clause-refused g c =
     let p = err_from_is_err_and c.from_residual-in_err-told-in-Outlines.result c.from_residual-in_err-told-in-Outlines.ensures.1 in
     rw (p.1, p.2) (refused_for _ _ c.in_err-told-in-Outlines.field-0.0 (λ none.
     subst (λ q. ¬ IsFit g.K.Ord.cmp g.K.Decode.is_value g.V.Decode.is_value g.K.Encode.encoding g.V.Encode.encoding c.args.digest_bytes q c.args.reply.now) (sym c.in-Outlines.is)
-    (λ fit. none fit.0 fit.1 fit.2)) c.in_err-told-in-Outlines.ensures.refused)
+    none) c.in_err-told-in-Outlines.ensures.refused)
 
 pub returns-in_err-told-in-Nodes-clause-refused : goal.returns-in_err-told-in-Nodes-clause-refused
 returns-in_err-told-in-Nodes-clause-refused g c =
     let p = err_from_is_err_and c.from_residual-in_err-told-in-Nodes.result c.from_residual-in_err-told-in-Nodes.ensures.1 in
     rw (p.1, p.2) (refused_for _ _ c.in_err-told-in-Nodes.field-0.0 (λ none.
     subst (λ q. ¬ IsFit g.K.Ord.cmp g.K.Decode.is_value g.V.Decode.is_value g.K.Encode.encoding g.V.Encode.encoding c.args.digest_bytes q c.args.reply.now) (sym c.in-Nodes.is)
-    (λ fit. none fit.0 fit.1 fit.2)) c.in_err-told-in-Nodes.ensures.refused)
+    none) c.in_err-told-in-Nodes.ensures.refused)
 
 pub returns-in_err-rows-in-RowsAt-clause-refused : goal.returns-in_err-rows-in-RowsAt-clause-refused
 returns-in_err-rows-in-RowsAt-clause-refused g c =
     let p = err_from_is_err_and c.from_residual-in_err-rows-in-RowsAt.result c.from_residual-in_err-rows-in-RowsAt.ensures.1 in
     rw (p.1, p.2) (refused_for _ _ c.in_err-rows-in-RowsAt.field-0.0 (λ none.
     subst (λ q. ¬ IsFit g.K.Ord.cmp g.K.Decode.is_value g.V.Decode.is_value g.K.Encode.encoding g.V.Encode.encoding c.args.digest_bytes q c.args.reply.now) (sym c.in-RowsAt.is)
-    (λ fit. none fit.0 fit.1 fit.2)) c.in_err-rows-in-RowsAt.ensures.refused)
+    none) c.in_err-rows-in-RowsAt.ensures.refused)
 
 pub returns-in_err-rows-in-RowsIn-clause-refused : goal.returns-in_err-rows-in-RowsIn-clause-refused
 returns-in_err-rows-in-RowsIn-clause-refused g c =
     let p = err_from_is_err_and c.from_residual-in_err-rows-in-RowsIn.result c.from_residual-in_err-rows-in-RowsIn.ensures.1 in
     rw (p.1, p.2) (refused_for _ _ c.in_err-rows-in-RowsIn.field-0.0 (λ none.
     subst (λ q. ¬ IsFit g.K.Ord.cmp g.K.Decode.is_value g.V.Decode.is_value g.K.Encode.encoding g.V.Encode.encoding c.args.digest_bytes q c.args.reply.now) (sym c.in-RowsIn.is)
-    (λ fit. none fit.0 fit.1 fit.2)) c.in_err-rows-in-RowsIn.ensures.refused)
+    none) c.in_err-rows-in-RowsIn.ensures.refused)

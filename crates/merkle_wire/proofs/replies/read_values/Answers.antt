@@ -1,4 +1,4 @@
-use Rattle.std.specs.Prelude.{⊤}
+use Rattle.std.specs.Prelude.{⊤, flat_map}
 use Rattle.std.proofs.Common.{◌≡◌, ◌≢◌, ◌≤◌, ◌++◌, ◌∷◌, [], ℕ, List, Option, length, map, append_assoc, append-nil, refl, ap, sym, ◌∙◌, rules}
 use Rattle.std.proofs.lemmas.List.{map-append}
 use Rattle.std.proofs.lemmas.Result.{err_from_is_err_and}
@@ -6,7 +6,6 @@ use Rattle.std.specs.Vec.Iter.{into_iter_items}
 use Rattle.merkle_bytes.specs.Options.{IsOption, option_bytes}
 use Rattle.merkle_replica.proofs.ListIterators.{one_yielded, all_yielded}
 use Rattle.merkle_wire.specs.Messages.{front}
-use Rattle.merkle_wire.specs.Replies.{values_bytes}
 use Rattle.merkle_wire.specs.Taking.{value_row}
 use Rattle.merkle_wire.specs.declared.message.Kind.TheVariants.{RowsAt as rows_at_kind}
 use Rattle.merkle_wire.specs.declared.wanted.Wanted.{Wanted}
@@ -18,6 +17,7 @@ use Rattle.merkle_wire.proofs.TellingReplies.{value_some, value_tells}
 use Rattle.merkle_wire.proofs.ValuesRead.{values_more, rows_of_more}
 use Rattle.merkle_wire.proofs.replies.read_values.Given.{Over}
 use Rattle.merkle_wire.proofs.replies.read_values.Goals as goal
+use Rattle.merkle_wire.specs.Replies.{value_at_bytes}
 
 -- what is told of a value has some bytes
 some_told : (g : Over) (t : Wanted g.row.K.Denot × Option g.row.V.Denot) → 1 ≤ length (option_bytes g.V.Encode.encoding t.1)
@@ -78,7 +78,7 @@ keys-preserved g c =
 pub returns-clause-read : goal.returns-clause-read
 returns-clause-read g c =
     let kept = c.keys.invariant in
-    let bytes = values_bytes g.V.Encode.encoding in
+    let bytes = flat_map (value_at_bytes g.V.Encode.encoding) in
     let done = all_yielded c.keys.yielded (into_iter_items c.keys.wanted-iterator) c.args.keys.items kept.left (sym kept.count ∙ c.in-None.ensures.steps.0) in
     let all = kept.read ∙ ap (λ t. front rows_at_kind ++ (bytes kept.told ++ t)) c.in_ok-end.ensures.ended ∙ ap (λ t. front rows_at_kind ++ t) (append-nil (bytes kept.told)) in (
       kept.told,
@@ -110,10 +110,10 @@ returns-in_err-read_value-clause-refused g c =
     let firsts = kept.of ∙ ap (λ l. map (λ t. t.0) kept.told ++ l) none ∙ append-nil (map (λ t. t.0) kept.told) in
     rw (p.1, p.2) (refused_for _ _ c.in_err-read_value.field-0.0 (λ no_value.
     says_nothing (λ wanted value. IsOption g.V.Decode.is_value value) rows_at_kind keys c.args.reply.now
-    (values_bytes g.V.Encode.encoding) (values_bytes g.V.Encode.encoding kept.told ++ left) kept.read
+    (flat_map (value_at_bytes g.V.Encode.encoding)) (flat_map (value_at_bytes g.V.Encode.encoding) kept.told ++ left) kept.read
     (none_next (λ t. option_bytes g.V.Encode.encoding t.1) (λ t. ⊤) (λ t. IsOption g.V.Decode.is_value t.1)
     (some_told g) (same_behind g)
-    kept.told keys (values_bytes g.V.Encode.encoding kept.told ++ left) left (all_told kept.told) refl more
+    kept.told keys (flat_map (value_at_bytes g.V.Encode.encoding) kept.told ++ left) left (all_told kept.told) refl more
     w behind (ap (λ t. t ++ w ∷ behind) (sym firsts) ∙ rw steps at kept.left) (λ value rest is. no_value value rest is))) c.in_err-read_value.ensures.refused)
 
 pub returns-in_err-end-clause-refused : goal.returns-in_err-end-clause-refused
@@ -128,7 +128,7 @@ returns-in_err-end-clause-refused g c =
     let none : c.keys.left.items ≡ [] = none_before c.keys.left.items left kept.once more in
     let firsts = kept.of ∙ ap (λ l. map (λ t. t.0) kept.told ++ l) none ∙ append-nil (map (λ t. t.0) kept.told) in
     says_nothing (λ wanted value. IsOption g.V.Decode.is_value value) rows_at_kind keys c.args.reply.now
-    (values_bytes g.V.Encode.encoding) (values_bytes g.V.Encode.encoding kept.told ++ left) kept.read
+    (flat_map (value_at_bytes g.V.Encode.encoding)) (flat_map (value_at_bytes g.V.Encode.encoding) kept.told ++ left) kept.read
     (none_left (λ t. option_bytes g.V.Encode.encoding t.1) (λ t. ⊤) (λ t. IsOption g.V.Decode.is_value t.1)
     (some_told g) (same_behind g)
-    kept.told keys (values_bytes g.V.Encode.encoding kept.told ++ left) left (all_told kept.told) refl more (sym firsts ∙ done))))
+    kept.told keys (flat_map (value_at_bytes g.V.Encode.encoding) kept.told ++ left) left (all_told kept.told) refl more (sym firsts ∙ done))))

@@ -2,10 +2,11 @@ use Rattle.std.proofs.Common.{refl, subst, ◌∙◌}
 use Rattle.key_order.specs.Map.{get}
 use Rattle.merkle_wire.specs.Messages.{front}
 use Rattle.merkle_wire.specs.Replies.{IsNotFull, IsFull}
-use Rattle.merkle_wire.specs.Told.{TellsValue}
 use Rattle.merkle_wire.specs.declared.message.Kind.TheVariants.{RowsAt}
 use Rattle.merkle_wire.proofs.Continued.{continued_more, continued_all, continued_full, telling_answers}
 use Rattle.merkle_wire.proofs.rows_at.tell_values.Goals as goal
+use Rattle.merkle_bytes.specs.Encodings.{AddsBytes}
+use Rattle.merkle_bytes.specs.Options.{option_bytes}
 
 pub keys-init : goal.keys-init
 keys-init g c = record { kept = refl; told = λ reply t. rw c.in_ok-bytes.ensures at t }
@@ -13,7 +14,8 @@ keys-init g c = record { kept = refl; told = λ reply t. rw c.in_ok-bytes.ensure
 pub keys-preserved : goal.keys-preserved
 keys-preserved g c =
     let so = c.keys.invariant in
-    let told = subst (λ side. TellsValue g.K.Ord.cmp g.V.Encode.encoding side.rows c.wanted-item.result.key c.keys.bytes c.tell_value.new.bytes) so.kept c.in_ok-tell_value.ensures.told in
+    let told = subst (λ side. AddsBytes c.keys.bytes (option_bytes g.V.Encode.encoding (get g.K.Ord.cmp side.rows c.wanted-item.result.key)) c.tell_value.new.bytes)
+    so.kept c.in_ok-tell_value.ensures.told in
     record {
       kept = c.tell_value.ensures.kept ∙ so.kept;
       told = continued_more _ _ _ _ c.args.keys.now (front RowsAt) c.keys.bytes.items c.tell_value.new.bytes.items c.keys.wanted-index c.wanted-item.result

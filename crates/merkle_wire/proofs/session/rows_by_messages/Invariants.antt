@@ -4,9 +4,9 @@ use Rattle.merkle_replica.proofs.SideLaws.{laws_of}
 use Rattle.merkle_tree_theory.specs.State.{SameSettings}
 use Rattle.merkle_wire.specs.Limits.{no_limits}
 use Rattle.merkle_wire.specs.Questions.{question_bytes}
-use Rattle.merkle_wire.specs.Sessions.{Covers, TellsOwn}
-use Rattle.merkle_wire.specs.Steady.{HasKeysOfSides, IsSteadyCatchUp, left_for}
 use Rattle.merkle_wire.proofs.session.rows_by_messages.Given as goal
+use Rattle.merkle_wire.proofs.Covering.{Covers, TellsOwn}
+use Rattle.merkle_wire.proofs.Steady.{HasKeysOfSides, IsSteadyCatchUp, left_for}
 
 -- the message asks what the catch-up asks, by own settings and at keys of the two sides, which covers what is missing and is steady, by the tree that
 -- the peer had; it has no limits; and rows and settings stay
@@ -17,7 +17,7 @@ invariant-exchanges g l = record {
       (side l.fn.peer) l.fn.peer.tree.root l.session;
   steady : IsSteadyCatchUp (laws_of g.K.Ord.cmp g.K.KeyBytes.bytes_of g.H.Hasher-1.digest_of g.V.PartialEq.eq g.V.Join.join_of g.H.Hasher-2.digest_of) (side l.fn.peer) l.fn.peer.tree.root l.session;
   keys : HasKeysOfSides (laws_of g.K.Ord.cmp g.K.KeyBytes.bytes_of g.H.Hasher-1.digest_of g.V.PartialEq.eq g.V.Join.join_of g.H.Hasher-2.digest_of) (side l.fn.replica) (side l.fn.peer) l.session;
-  own : TellsOwn (laws_of g.K.Ord.cmp g.K.KeyBytes.bytes_of g.H.Hasher-1.digest_of g.V.PartialEq.eq g.V.Join.join_of g.H.Hasher-2.digest_of) g.row.N (side l.replica) l.session.asked;
+  own : TellsOwn (laws_of g.K.Ord.cmp g.K.KeyBytes.bytes_of g.H.Hasher-1.digest_of g.V.PartialEq.eq g.V.Join.join_of g.H.Hasher-2.digest_of) g.row.N (side l.fn.replica) l.session.asked;
   limits : l.session.left ≡ no_limits;
   rows : l.replica.rows ≡ l.fn.replica.rows;
   settings : SameSettings l.fn.replica.tree l.replica.tree;

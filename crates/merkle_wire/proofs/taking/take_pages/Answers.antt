@@ -3,9 +3,9 @@ use Rattle.std.proofs.lemmas.List.{take_all, take_more}
 use Rattle.merkle_search_tree.specs.Items.{bound_of}
 use Rattle.merkle_wire.specs.Gaps.{owned_gap}
 use Rattle.merkle_wire.specs.ItsRows.{ForRowsOf, side_of}
-use Rattle.merkle_wire.specs.Takes.{AddsBelow}
 use Rattle.merkle_wire.proofs.NewGaps.{AreGapsSoFar, gaps_none, gaps_more_of, gaps_end}
 use Rattle.merkle_wire.proofs.taking.take_pages.Goals as goal
+use Rattle.merkle_wire.specs.Reads.{AddsBelow}
 
 pub nodes-init : goal.nodes-init
 nodes-init g c =
@@ -26,7 +26,8 @@ nodes-preserved g c =
     let i = c.nodes.node-index in
     let node = c.node-item.result in
     let added = subst (λ t. ForRowsOf laws t.digests
-    (λ local. AddsBelow laws local (record { after = bound_of c.nodes.after; before = Some node.1.key }) node.0 c.nodes.work c.take_below.new.work)) kept.kept c.in_ok-take_below.ensures.added in
+    (λ local. AddsBelow laws local (record { after = bound_of c.nodes.after; before = Some node.1.key }) node.0 c.nodes.work c.take_below.new.work))
+    kept.kept c.in_ok-take_below.ensures.added in
     record {
       kept = c.take_below.ensures.kept ∙ kept.kept;
       so = λ rows of. let local = side_of (g.T.KeptTree.kept c.args.tree.now).digests rows in

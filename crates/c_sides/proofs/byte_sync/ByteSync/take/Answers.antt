@@ -1,11 +1,11 @@
 use Rattle.std.proofs.Common.{rules, ◌≡◌, length, refl, ap, subst, sym, ◌∙◌}
 use Rattle.c_rows.specs.Values.{byte_laws, key_encoding, value_encoding}
 use Rattle.key_order.specs.Map.{IsPresent}
-use Rattle.merkle_wire.specs.ItsRows.{ForItsRows}
 use Rattle.merkle_wire.specs.Next.{IsNext}
 use Rattle.merkle_wire.specs.declared.session_error.SessionError.TheVariants.{Memory}
 use Rattle.c_sides.proofs.Takes.{kept_taken}
 use Rattle.c_sides.proofs.byte_sync.ByteSync.take.Goals as goal
+use Rattle.merkle_wire.specs.ItsRows.{ForRowsOf, digests_of}
 
 pub returns-else-len-eq0 : goal.returns-else-len-eq0
 returns-else-len-eq0 c =
@@ -16,7 +16,7 @@ returns-else-len-eq0 c =
       taken = record {
         before = before;
         under_way = sym c.in_ok-session.ensures.value;
-        comes = subst (λ next. ForItsRows byte_laws c.args.self.now.tree (λ local. IsNext byte_laws 16 key_encoding value_encoding local before c.args.reply.now next))
+        comes = subst (λ next. ForRowsOf byte_laws (digests_of c.args.self.now.tree) (λ local. IsNext byte_laws 16 key_encoding value_encoding local before c.args.reply.now next))
             c.in-Ok-Ask.field-0-is c.in-Ok-Ask.ensures.next;
       };
       asks = refl;
@@ -45,7 +45,7 @@ returns-in-Ok-Came c =
     (record {
       before = before;
       under_way = sym c.in_ok-session.ensures.value;
-      comes = subst (λ next. ForItsRows byte_laws old.tree (λ local. IsNext byte_laws 16 key_encoding value_encoding local before c.args.reply.now next))
+      comes = subst (λ next. ForRowsOf byte_laws (digests_of old.tree) (λ local. IsNext byte_laws 16 key_encoding value_encoding local before c.args.reply.now next))
           c.in-Ok-Came.field-0-is c.in-Ok-Came.ensures.next;
     })
     c.keep.ensures

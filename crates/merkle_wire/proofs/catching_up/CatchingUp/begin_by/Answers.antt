@@ -1,7 +1,7 @@
 use Rattle.std.proofs.Common.{subst, sym}
 use Rattle.merkle_replica.proofs.SideLaws.{laws_of}
 use Rattle.merkle_wire.specs.Questions.{IsQuestion}
-use Rattle.merkle_wire.specs.Steady.{IsKeyOf}
+use Rattle.merkle_wire.specs.Sessions.{IsKeyOf}
 use Rattle.merkle_wire.specs.declared.question.Question.TheVariants.{Root}
 use Rattle.merkle_wire.proofs.ExchangeKeys.{question_read}
 use Rattle.merkle_wire.proofs.ItsSides.{key_of_rows}
