@@ -77,30 +77,30 @@ module _ {K V : Type 0} (cmp : K → K → Ordering) (is_key : K → Type 0) (is
   IsFit n (RowsAt keys) reply = SaysSo rows_at_kind (Says (λ w. IsOption is_value) (flat_map (value_at_bytes values)) keys.items) reply
   IsFit n (RowsIn gaps) reply = SaysSo rows_in_kind (SaysParts gaps.items) reply
 
--- not this many digests of n bytes
+-- the bytes don't begin with this many digests of n bytes
 abbrev pub NoDigests : ℕ → ℕ → List ℕ → Type 0
 NoDigests n count = BeginsWithNo (flat_map (λ d. d)) (λ digests. (length digests ≡ count) × AllByRecursion (λ d. length d ≡ n) digests)
 
 module _ {K : Type 0} (cmp : K → K → Ordering) (is_key : K → Type 0) (encoding : K → List ℕ) where
-  -- no page over a gap, after a key
+  -- they don't begin with a page over a gap, after a key
   abbrev pub NoPage : List ℕ → OwnedGap K → List ℕ → Type 0
   NoPage last gap left = (digest : List ℕ) (keys : List K) (pages : List (Option (List ℕ))) (rest : List ℕ) → IsPageTold cmp is_key (owned_gap gap) digest keys pages
       → left ≢ page_bytes encoding last digest keys pages ++ rest
 
 module _ {K V : Type 0} (cmp : K → K → Ordering) (is_key : K → Type 0) (is_value : V → Type 0) (encoding : K → List ℕ) (values : V → List ℕ) where
-  -- no rows in a gap, after a key
+  -- they don't begin with rows in a gap, after a key
   abbrev pub NoRows : List ℕ → OwnedGap K → List ℕ → Type 0
   NoRows last gap = BeginsWithNo (run_bytes (row_behind encoding values) (row_key encoding) last) (AreRowsIn cmp is_key is_value (owned_gap gap))
 
-  -- no outline of the page over a gap
+  -- they don't begin with an outline of the page over a gap
   abbrev pub NoOutline : ℕ → Bool → OwnedGap K → List ℕ → Type 0
   NoOutline n with_pages gap = BeginsWithNo (outline_bytes encoding values (bound_key encoding [] gap.after)) (IsOutlineIn cmp is_key is_value n with_pages (owned_gap gap))
 
-  -- no part of the rows in a gap
+  -- they don't begin with a part of the rows in a gap
   abbrev pub NoPart : OwnedGap K → List ℕ → Type 0
   NoPart gap = BeginsWithNo (part_bytes encoding values (bound_key encoding [] gap.after)) (IsPartIn cmp is_key is_value (owned_gap gap))
 
-  -- nothing but parts of the rows in the first of the gaps
+  -- they are not parts of the rows in the first of the gaps and nothing else
   abbrev pub NoParts : List (OwnedGap K) → List ℕ → Type 0
   NoParts gaps left = (told : List (OwnedGap K × Part K V)) (others : List (OwnedGap K)) → gaps ≡ map (λ t. t.0) told ++ others
       → AllByRecursion (λ t. IsPartIn cmp is_key is_value (owned_gap t.0) t.1) told → left ≢ flat_map (part_in_bytes encoding values) told

@@ -93,11 +93,11 @@ module _ {K V H : Type 0} (laws : Laws K V H) (n : ℕ) (encoding : K → List �
       → (begun last : Underway K V) (more : List (Underway K V)) → IsBegun begun → (so_far : AreExchangesTo local peer begun more last) → Holds local peer begun last more so_far
 
 module _ {K V H : Type 0} (laws : Laws K V H) (n : ℕ) (encoding : K → List ℕ) (values : V → List ℕ) (local peer : Side K V H) where
-  -- how many of them an exchange told
+  -- how many entries of a reply of this kind an exchange told
   abbrev pub entries_told : Kind → (before : Underway K V) (next : Next K V) → IsExchange laws n encoding values local peer before next → ℕ
   entries_told kind before next e = entries_taken laws n encoding values local kind before.asked e.reply before.found e.takes.0 e.takes.1 e.takes.2
 
-  -- so it is with exchanges, one after the other
+  -- and how many exchanges told, one after the other
   abbrev pub told_in : Kind → (before : Underway K V) (more : List (Underway K V)) (last : Underway K V) → AreExchangesTo laws n encoding values local peer before more last → ℕ
   told_in kind before [] last is = 0
   told_in kind before (next ∷ more) last (message, e, others) = entries_told kind before (Ask next message) e + told_in kind next more last others
@@ -124,7 +124,7 @@ module _ {K V H : Type 0} (laws : Laws K V H) where
   NoCollisionIsFaithful n = (a b : Side K V H) → AreSetAlike laws a b → DigestTheirValuesAlike laws a b → a.format ≡ V2
       → IsCollisionFree laws n a b → NoNodesCollide laws a b → IsFaithfulSession laws a b
 
-  -- the test decides which pages a side has at their places
+  -- the test `has_page_at` decides which pages a side has at their places
   abbrev pub OwnPagesAreKnown : Type 0
   OwnPagesAreKnown = (local : Side K V H) → IsMap laws.cmp local.rows → (g : Gap K) (d : List ℕ) → IsTrue (has_page_at laws local g d) ↔ HasPageAt laws local g d
 
