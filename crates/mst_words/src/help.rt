@@ -39,7 +39,8 @@ usage: mst export FILE [--log]
 
 Prints the keys and values as CSV, with the first line key,value. With --log it prints each entry of the log, removals too, with the
 first line key,time,writer,change,value; the change is put or del. If rows are damaged, it prints the others, names the damaged ones
-on standard error, and ends with status 4.
+on standard error, and ends with status 4. It can't read past a damaged page, and prints nothing then: restore a backup, or clone
+another copy.
 ";
 
 const COMPACT_HELP: &str = "\
