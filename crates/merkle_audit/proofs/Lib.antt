@@ -1,3 +1,4 @@
+pub mod Collisions
 pub mod PagesBySpan
 pub mod FaithfulPages
 pub mod SoFar

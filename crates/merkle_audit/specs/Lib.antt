@@ -1,3 +1,4 @@
+pub mod Collisions
 pub mod Pages
 pub mod Values
 pub mod Nodes

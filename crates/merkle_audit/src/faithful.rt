@@ -1,15 +1,19 @@
 //! Whether the digests of two replicas are faithful, whole.
 ghost use Rattle.std.specs.Prelude.{◌≡◌, IfOk, IsTrue};
+ghost use Rattle.merkle_audit.specs.Collisions.{IsFreeWhereSmall};
 ghost use Rattle.merkle_replica.specs.Contents.{side};
 ghost use Rattle.merkle_replica.specs.Faithful.{IsFaithful};
 ghost use Rattle.merkle_tree_theory.specs.State.{SameSettings};
-ghost use Rattle.merkle_wire.specs.Sessions.{IsFaithfulSession};
+ghost use Rattle.merkle_wire.specs.Sessions.{IsFaithfulSession, NoNodesCollide};
 
 use crate::nodes::have_faithful_nodes;
 use crate::pages::have_faithful_pages;
 use crate::values::{digest_their_values_alike, have_faithful_values};
 use merkle_digest::Key;
 use merkle_replica::{Join, Replica, RowHasher};
+use merkle_search_tree::laws::{
+    a_map_has_one_tree, equal_keys_have_equal_bytes, equal_pages_have_equal_maps,
+};
 use std::alloc::{AllocError, Global};
 
 /// Whether the digests of two replicas are faithful: where `true`, what is proved of pulls, of catch-ups at hand and of
@@ -25,6 +29,9 @@ pub fn are_faithful<K: Key + Drop, V: Join + Drop, H: RowHasher<N, K, V>, const 
 ) -> Result<bool, AllocError>
     ensures told { IfOk result (λ are. IsTrue are → IsFaithful H.laws (side a.old) (side b.old)) }
 
+    // Sides that are set alike, in format 2 and with small maps, are then free of collisions.
+    ensures free { IfOk result (λ are. IsTrue are → IsFreeWhereSmall H.laws (side a.old) (side b.old)) }
+
     // It is true wherever they are faithful.
     ensures found { IfOk result (λ are. IsFaithful H.laws (side a.old) (side b.old) → IsTrue are) }
 
@@ -33,10 +40,14 @@ pub fn are_faithful<K: Key + Drop, V: Join + Drop, H: RowHasher<N, K, V>, const 
     ensures a_settings { SameSettings a.old.tree a.new.tree }
     ensures b_settings { SameSettings b.old.tree b.new.tree }
 {
+    a_map_has_one_tree::<K, H, N>();
+    equal_keys_have_equal_bytes::<K>();
+    equal_pages_have_equal_maps::<K>();
     if !have_faithful_values(a, b) {
         return Ok(false);
     }
-    have_faithful_pages(a, b)
+    let are = have_faithful_pages(a, b)?;
+    Ok(are)
 }
 
 /// Whether digests are faithful in a session in which the one catches up with the other by messages: where `true`, it brings all rows
@@ -52,6 +63,7 @@ pub fn is_faithful_session<K: Key + Drop, V: Join + Drop, H: RowHasher<N, K, V>,
     peer: &mut Replica<K, V, H, N>,
 ) -> Result<bool, AllocError>
     ensures told { IfOk result (λ is. IsTrue is → IsFaithfulSession H.laws (side local.old) (side peer.old)) }
+    ensures apart { IfOk result (λ is. IsTrue is → NoNodesCollide H.laws (side local.old) (side peer.old)) }
     ensures local_rows { local.new.rows ≡ local.old.rows }
     ensures peer_rows { peer.new.rows ≡ peer.old.rows }
     ensures local_settings { SameSettings local.old.tree local.new.tree }

@@ -1,4 +1,4 @@
-use Rattle.std.proofs.Common.{refl}
+use Rattle.std.proofs.Common.{ap, flat_map, refl}
 use Rattle.std.proofs.lemmas.Result.{IfOk-weaker}
 use Rattle.merkle_replica.specs.Faithful.{IsFaithful}
 use Rattle.merkle_audit.proofs.Sides.{as_before}
@@ -13,3 +13,7 @@ returns-clause-told g c =
       nodes = nodes.told c.if-not-branch.false;
       values = c.digest_their_values_alike.ensures.0 c.if-not-digest_their_values_alike.false;
     }) c.are_faithful.ensures.told
+
+pub returns-clause-apart : goal.returns-clause-apart
+returns-clause-apart g c =
+    IfOk-weaker c.are_faithful.result _ _ (λ is told yes ds es one. ap (flat_map (λ d. d)) (c.in_ok-have_faithful_nodes.ensures.told c.if-not-branch.false ds es one)) c.are_faithful.ensures.told
