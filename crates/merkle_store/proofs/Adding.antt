@@ -6,10 +6,10 @@ use Rattle.key_order.specs.Join.{joined, IsJoining}
 use Rattle.key_order.specs.Text.{Text as Key, text_order}
 use Rattle.key_order.proofs.Values.{Eq, on, back, assoc, comm, cong, same, to_none, idem}
 use Rattle.merkle_replica.specs.Puts.{join_of_values}
-use Rattle.store_table.specs.Entries.{entry_order}
-use Rattle.store_table.specs.Registers.{register_order}
-use Rattle.store_table.specs.declared.register.Register.{Register}
-use Rattle.store_table.proofs.Inserting.{IsPlaced, AreInserted}
+use Rattle.store_file.specs.Entries.{entry_order}
+use Rattle.store_file.specs.Registers.{register_order}
+use Rattle.store_file.specs.declared.register.Register.{Register}
+use Rattle.store_file.proofs.Inserting.{IsPlaced, AreInserted}
 use Rattle.merkle_store.proofs.Agreeing.{at, at_alike}
 
 module _ (eq : Register → Register → Bool) (e : IsEquivalence eq) (join : Register → Register → Register) (j : IsJoining eq join) where

@@ -7,10 +7,10 @@ use Rattle.key_order.specs.Text.{Text as Key, text_order}
 use Rattle.key_order.proofs.Values.{Eq}
 use Rattle.sqlite_value.specs.Keys.{plain, entry_cmp}
 use Rattle.sqlite_value.proofs.KeyLemmas.{entry_cmp_total, then_tied}
-use Rattle.store_table.specs.Entries.{entry_row, entry_order}
-use Rattle.store_table.proofs.OrderOfEntries.{row_order}
-use Rattle.store_table.specs.Registers.{register_order}
-use Rattle.store_table.specs.declared.register.Register.{Register}
+use Rattle.store_file.specs.Entries.{entry_row, entry_order}
+use Rattle.store_file.proofs.OrderOfEntries.{row_order}
+use Rattle.store_file.specs.Registers.{register_order}
+use Rattle.store_file.specs.declared.register.Register.{Register}
 
 -- entries with one row are not told apart
 pub one_row : (r s : Key × Register) → entry_row r ≡ entry_row s → entry_order r s ≡ Equal

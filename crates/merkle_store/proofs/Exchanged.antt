@@ -13,8 +13,8 @@ use Rattle.merkle_wire.specs.Underway.{Underway}
 use Rattle.merkle_wire.specs.declared.catching_up.Next.TheVariants.{Ask, Came}
 use Rattle.merkle_delta.specs.Hearing.{IsHeard, IsSentFor, Told}
 use Rattle.merkle_delta.specs.declared.hearing.Heard.TheVariants.{Reply, Again}
-use Rattle.store_table.specs.WireRegisters.{register_encoding}
-use Rattle.store_table.specs.declared.register.Register.{Register}
+use Rattle.store_file.specs.WireRegisters.{register_encoding}
+use Rattle.store_file.specs.declared.register.Register.{Register}
 use Rattle.merkle_store.specs.Exchanges.{BeginsCatchUp, Exchange, IsToldReply, LeadTo, Wire, on_wire}
 use Rattle.merkle_store.specs.Framing.{Streams, frame_of}
 use Rattle.merkle_store.specs.Sessions.{EntryContents, entry_laws, text_key_encoding, all_asked, all_told, CatchesUp, HasServed}

@@ -17,10 +17,10 @@ use Rattle.sqlite_value.proofs.KeyLemmas.{then_below, then_tied}
 use Rattle.sqlite_value.proofs.OrderLemmas.{value_cmp-Text}
 use Rattle.sqlite_trees.specs.Tree.{Trees, IsAscending}
 use Rattle.sqlite_trees.proofs.ListLemmas.{ascending-filter, filter-map}
-use Rattle.store_table.specs.Entries.{entry_row, entry_row_of, entry_order}
-use Rattle.store_table.specs.Latest.{rows_of, IsLatestAt}
-use Rattle.store_table.specs.Registers.{register_order}
-use Rattle.store_table.specs.declared.register.Register.{Register}
+use Rattle.store_file.specs.Entries.{entry_row, entry_row_of, entry_order}
+use Rattle.store_file.specs.Latest.{rows_of, IsLatestAt}
+use Rattle.store_file.specs.Registers.{register_order}
+use Rattle.store_file.specs.declared.register.Register.{Register}
 use Rattle.merkle_store.specs.Kept.{HoldsLatest}
 use Rattle.merkle_store.proofs.Agreeing.{one_row}
 

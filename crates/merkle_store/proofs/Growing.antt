@@ -6,7 +6,7 @@ use Rattle.key_order.specs.Join.{joined, IsJoining}
 use Rattle.key_order.specs.Text.{Text as Key, text_order}
 use Rattle.key_order.proofs.Values.{Eq, on, back, assoc, comm, cong, same}
 use Rattle.merkle_replica.specs.Puts.{join_of_values, HasGathered}
-use Rattle.store_table.specs.declared.register.Register.{Register}
+use Rattle.store_file.specs.declared.register.Register.{Register}
 use Rattle.merkle_store.specs.Kept.{JoinTheSame}
 
 module _ (eq : Register → Register → Bool) (e : IsEquivalence eq) (join : Register → Register → Register) (j : IsJoining eq join) where

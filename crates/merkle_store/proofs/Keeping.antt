@@ -8,13 +8,13 @@ use Rattle.key_order.specs.Text.{Text as Key, text_order}
 use Rattle.key_order.proofs.Values.{Eq, on, back, assoc, cong, same}
 use Rattle.merkle_replica.specs.Puts.{IsPuts, join_of_values, HasGathered}
 use Rattle.sqlite_trees.specs.Tree.{Trees}
-use Rattle.store_table.specs.Changes.{HasMore}
-use Rattle.store_table.specs.Entries.{HoldsEntries, entry_row, note_in, IsNoted}
-use Rattle.store_table.specs.Registers.{register_order}
-use Rattle.store_table.specs.declared.register.Register.{Register}
-use Rattle.store_table.specs.declared.format.TheConstants.{FORMAT}
+use Rattle.store_file.specs.Changes.{HasMore}
+use Rattle.store_file.specs.Entries.{HoldsEntries, entry_row, note_in, IsNoted}
+use Rattle.store_file.specs.Registers.{register_order}
+use Rattle.store_file.specs.declared.register.Register.{Register}
+use Rattle.store_file.specs.declared.format.TheConstants.{FORMAT}
 use Rattle.merkle_store.specs.Kept.{HoldsLatest, JoinTheSame}
-use Rattle.store_table.proofs.Inserting.{holds_more}
+use Rattle.store_file.proofs.Inserting.{holds_more}
 use Rattle.merkle_store.proofs.Adding.{inserted_gather}
 
 module _ (eq : Register → Register → Bool) (e : IsEquivalence eq) (join : Register → Register → Register) (j : IsJoining eq join) (total : IsTotalOrder text_order) where

@@ -12,10 +12,10 @@ use Rattle.key_order.proofs.Maps.{get_same}
 use Rattle.key_order.proofs.Orders.{either, not_both}
 use Rattle.key_order.proofs.Values.{Eq, on, back, assoc, cong, same, to_none}
 use Rattle.merkle_replica.specs.Puts.{join_of_values}
-use Rattle.store_table.specs.Registers.{is_later, register_order}
+use Rattle.store_file.specs.Registers.{is_later, register_order}
 use Rattle.merkle_store.specs.Kept.{JoinTheSame}
 use Rattle.merkle_store.proofs.Adding.{swap}
-use Rattle.store_table.specs.declared.register.Register.{Register}
+use Rattle.store_file.specs.declared.register.Register.{Register}
 
 module _ (o : IsTotalOrder register_order) (eq : Register → Register → Bool) (e : IsEquivalence eq) (j : IsJoining eq (ord_max register_order)) (total : IsTotalOrder text_order) where
   second : (a b : Register) → Upto register_order a b → ord_max register_order a b ≡ b

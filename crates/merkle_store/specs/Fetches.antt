@@ -2,8 +2,8 @@
 use Rattle.std.specs.Prelude.{◌≡◌, ◌≤◌, ℕ, List, All, length, Option, IfSome, string_bytes}
 use Rattle.std.specs.Global.{Vec}
 use Rattle.key_order.specs.Text.{Text}
-use Rattle.store_table.specs.Values.{bytes_of_value}
-use Rattle.store_table.specs.declared.register.Register.{Register}
+use Rattle.store_file.specs.Values.{bytes_of_value}
+use Rattle.store_file.specs.declared.register.Register.{Register}
 use Rattle.merkle_store.specs.Framing.{Streams}
 use Rattle.merkle_store.specs.News.{later_entries, AreTimely}
 use Rattle.merkle_store.specs.Sessions.{CatchesUp, EntryContents}

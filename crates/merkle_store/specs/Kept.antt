@@ -6,14 +6,14 @@ use Rattle.key_order.specs.Join.{joined}
 use Rattle.sqlite_trees.specs.declared.store.Store.{Ghosts}
 use Rattle.sqlite_trees.specs.Tree.{Trees}
 use Rattle.merkle_replica.specs.Puts.{join_of_values, HasGathered, IsPuts}
-use Rattle.store_table.specs.Changes.{HasEntriesMore}
-use Rattle.store_table.specs.Entries.{HoldsEntries, IsNoted}
-use Rattle.store_table.specs.Latest.{IsLatestAt}
-use Rattle.store_table.specs.Logs.{trees_of, IsClean}
-use Rattle.store_table.specs.declared.register.Register.{Register}
-use Rattle.store_table.specs.declared.format.TheConstants.{FORMAT}
-use Rattle.store_table.specs.contracts.register.RegisterPartialEq.TheImpl as register_eq
-use Rattle.store_table.specs.contracts.registers.RegisterJoin.TheImpl as register_join
+use Rattle.store_file.specs.Changes.{HasEntriesMore}
+use Rattle.store_file.specs.Entries.{HoldsEntries, IsNoted}
+use Rattle.store_file.specs.Latest.{IsLatestAt}
+use Rattle.store_file.specs.Logs.{trees_of, IsClean}
+use Rattle.store_file.specs.declared.register.Register.{Register}
+use Rattle.store_file.specs.declared.format.TheConstants.{FORMAT}
+use Rattle.store_file.specs.contracts.register.RegisterPartialEq.TheImpl as register_eq
+use Rattle.store_file.specs.contracts.registers.RegisterJoin.TheImpl as register_join
 
 module _ (eq : Register → Register → Bool) (join : Register → Register → Register) where
   -- The trees are those of a store by this writer, and the rows in memory are the map that has, for each key of an entry of its table, the

@@ -3,8 +3,8 @@ use Rattle.std.specs.Prelude.{◌≤◌, ℕ, List, All}
 use Rattle.std.specs.List.{filter}
 use Rattle.key_order.specs.Text.{Text, text_order}
 use Rattle.key_order.specs.Map.{get}
-use Rattle.store_table.specs.Registers.{is_later}
-use Rattle.store_table.specs.declared.register.Register.{Register}
+use Rattle.store_file.specs.Registers.{is_later}
+use Rattle.store_file.specs.declared.register.Register.{Register}
 use Rattle.merkle_store.specs.Kept.{JoinsEntries}
 
 -- those of a peer's entries that are later than what the rows have for their keys

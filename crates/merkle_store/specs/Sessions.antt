@@ -13,9 +13,9 @@ use Rattle.merkle_replica.specs.Faithful.{HasSmallMap}
 use Rattle.merkle_replica.specs.Laws.{Laws}
 use Rattle.merkle_wire.specs.Sessions.{AreBrought}
 use Rattle.merkle_wire.specs.Underway.{Underway}
-use Rattle.store_table.specs.RegisterBytes.{register_bytes}
-use Rattle.store_table.specs.WireRegisters.{register_encoding}
-use Rattle.store_table.specs.declared.register.Register.{Register}
+use Rattle.store_file.specs.RegisterBytes.{register_bytes}
+use Rattle.store_file.specs.WireRegisters.{register_encoding}
+use Rattle.store_file.specs.declared.register.Register.{Register}
 use Rattle.merkle_store.specs.Exchanges.{AreRepliesBy, BeginsCatchUp, Exchange, IsMessageAnswered, LeadTo, NoneCollides, Wire, on_wire}
 use Rattle.merkle_store.specs.Framing.{HasEnded, Streams, frame_of}
 use Rattle.merkle_store.specs.declared.serving.Served.{Served}

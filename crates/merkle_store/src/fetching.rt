@@ -17,8 +17,8 @@ use merkle_delta::{Deltas, Heard};
 use merkle_wire::{CatchingUp, Limit, Limits, Next, SessionError};
 use std::alloc::{AllocError, Global};
 use std::io::{Read, Write};
-use store_table::Register;
-use store_table::table::Entries;
+use store_file::Register;
+use store_file::table::Entries;
 
 /// How many questions are asked at most, which the peer can't raise. Where parts of an answer have
 /// [`ANSWER_BYTES`](crate::framing::ANSWER_BYTES), this many bring a tebibyte, which no store in memory has.

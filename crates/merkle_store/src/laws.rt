@@ -6,9 +6,9 @@ ghost use Rattle.merkle_store.specs.Sessions.{ServedBring};
 use merkle_delta::laws::what_is_told_is_heard;
 use merkle_digest::SipHasher;
 use merkle_wire::laws::a_session_is_a_catch_up;
-use store_table::Register;
+use store_file::Register;
 
-/// What [`find`](store_table::latest::find) returns for a key is what the rows in memory have for it, up to equality.
+/// What [`find`](store_file::latest::find) returns for a key is what the rows in memory have for it, up to equality.
 pub fn what_is_found_is_kept()
     ensures { InStepTellFound }
 {}
@@ -23,7 +23,7 @@ pub fn a_served_catch_up_brings_what_is_lacked()
     a_session_is_a_catch_up::<String, Register, SipHasher, 16>();
 }
 
-/// Where [`add_all`](store_table::table::add_all) has added entries, the rows of the file are the join of those before with these entries.
+/// Where [`add_all`](store_file::table::add_all) has added entries, the rows of the file are the join of those before with these entries.
 pub fn what_is_added_is_joined()
     ensures { AddedAreJoined }
 {}

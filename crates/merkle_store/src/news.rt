@@ -2,13 +2,13 @@
 ghost use Rattle.std.specs.Prelude.{◌≡◌};
 ghost use Rattle.key_order.specs.Text.{text_order};
 ghost use Rattle.key_order.specs.Map.{get};
-ghost use Rattle.store_table.specs.Registers.{is_later};
+ghost use Rattle.store_file.specs.Registers.{is_later};
 ghost use Rattle.merkle_store.specs.News.{later_entries};
 
 use crate::rows::EntryReplica;
-use store_table::Register;
-use store_table::rows::register_in;
-use store_table::table::Entries;
+use store_file::Register;
+use store_file::rows::register_in;
+use store_file::table::Entries;
 
 /// Whether an entry is later than what its key has.
 fn is_news(replica: &EntryReplica, entry: &(String, Register)) -> bool

@@ -6,7 +6,7 @@ use sqlite_disk::Disk;
 use sqlite_store::FileStore;
 use sqlite_trees::store::Store as Trees;
 use std::alloc::Global;
-use store_table::log::Log;
+use store_file::log::Log;
 
 /// The log, once its file is closed and opened again by `close_files` and `open_trusted` of `store_file`, as `mst` does from one command to the next:
 /// its tables have the rows that they had. There is none where the file can't be closed or opened, or memory runs out.

@@ -1,7 +1,7 @@
 //! The rows of a store's file in memory.
 ghost use Rattle.std.specs.Prelude.{◌≡◌, [], IfOk, IfErr};
-ghost use Rattle.store_table.specs.Faults.{IsFailure};
-ghost use Rattle.store_table.specs.Logs.{Finds, OnlyReads};
+ghost use Rattle.store_file.specs.Faults.{IsFailure};
+ghost use Rattle.store_file.specs.Logs.{Finds, OnlyReads};
 ghost use Rattle.merkle_store.specs.Kept.{AreRowsOf, HasPutAll};
 
 use merkle_digest::SipHasher;
@@ -9,10 +9,10 @@ use merkle_replica::Replica;
 use merkle_search_tree::builder::{Builder, PageFormat};
 use sqlite_trees::store::Store;
 use std::alloc::Global;
-use store_table::format::HASH_KEY_LEN;
-use store_table::log::Log;
-use store_table::table::{Entries, read_log};
-use store_table::{Register, StoreFault};
+use store_file::format::HASH_KEY_LEN;
+use store_file::log::Log;
+use store_file::table::{Entries, read_log};
+use store_file::{Register, StoreFault};
 
 /// The entries of a store, as a replica.
 pub type EntryReplica = Replica<String, Register, SipHasher, 16>;

@@ -6,7 +6,7 @@ use mst_commands::fault::Named;
 use mst_files::fault::FileFault;
 use std::alloc::AllocError;
 use std::{fmt, io};
-use store_table::StoreFault;
+use store_file::StoreFault;
 
 /// Why the program ends early.
 #[derive(Debug, Drop)]

@@ -14,7 +14,7 @@ use mst_words::Limits;
 use std::alloc::{AllocError, Global};
 use std::env;
 use std::io::{IsTerminal, Read, Take, Write};
-use store_table::table::Entries;
+use store_file::table::Entries;
 
 /// How many bytes come between two lines on standard error.
 const LINE_BYTES: usize = 16_777_216;

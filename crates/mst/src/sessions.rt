@@ -1,7 +1,7 @@
 //! Sessions with a peer: a file is read into memory and closed before, and opened again to add what was fetched. So other commands can have it while
 //! the peer is waited for.
-ghost use Rattle.store_table.specs.Changes.{HasEntriesMore};
-ghost use Rattle.store_table.specs.Logs.{Finds, OnlyReads, Writes};
+ghost use Rattle.store_file.specs.Changes.{HasEntriesMore};
+ghost use Rattle.store_file.specs.Logs.{Finds, OnlyReads, Writes};
 ghost use Rattle.merkle_store.specs.Kept.{AreRowsOf};
 
 use crate::fault::Failure;
@@ -15,9 +15,9 @@ use mst_files::opening::open_file;
 use mst_words::Limits;
 use sqlite_trees::store::Store;
 use std::io::{Read, Take};
-use store_table::format::{HASH_KEY_LEN, Note, recognise};
-use store_table::log::Log;
-use store_table::table::{Entries, add_all};
+use store_file::format::{HASH_KEY_LEN, Note, recognise};
+use store_file::log::Log;
+use store_file::table::{Entries, add_all};
 
 /// What a store notes of itself, and its rows in memory.
 fn rows_of<S: Store>(rt: &HostRuntime, log: &mut Log<S>) -> Result<(Note, EntryReplica), Failure>

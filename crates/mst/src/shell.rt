@@ -14,9 +14,9 @@ use mst_words::{
 use sqlite_trees::store::Store;
 use std::fmt::Display;
 use std::io::{self, ErrorKind};
-use store_table::StoreFault;
-use store_table::format::{Note, recognise};
-use store_table::log::Log;
+use store_file::StoreFault;
+use store_file::format::{Note, recognise};
+use store_file::log::Log;
 
 /// What is said of a `commit` or an `abort` that no `begin` stands before.
 const NO_CHANGE: &str = "no change has begun";

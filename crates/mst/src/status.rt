@@ -8,8 +8,7 @@ use mst_files::fault::FileFault;
 use sqlite_std_file::OpenError;
 use sqlite_trees::error::StoreError;
 use std::io::ErrorKind;
-use store_file::OpenFault;
-use store_table::StoreFault;
+use store_file::{OpenFault, StoreFault};
 
 /// The key isn't there, or isn't as a write wants it.
 const NO_KEY: u8 = 1;

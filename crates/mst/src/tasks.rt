@@ -1,9 +1,9 @@
 //! A command on the file of a store.
 ghost use Rattle.std.specs.Prelude.{string_bytes};
-ghost use Rattle.store_table.specs.Entries.{HoldsEntries};
+ghost use Rattle.store_file.specs.Entries.{HoldsEntries};
 ghost use Rattle.mst_commands.specs.Carries.{Carries};
 ghost use Rattle.mst_words.specs.declared.command.StoreCommand.TheVariants.{Table};
-ghost use Rattle.store_table.specs.Logs.{Finds, Leaves, Makes, OnlyReads};
+ghost use Rattle.store_file.specs.Logs.{Finds, Leaves, Makes, OnlyReads};
 
 use crate::fault::Failure;
 use merkle_digest::RootHash;
@@ -18,9 +18,9 @@ use mst_words::{StoreCommand, TableCommand};
 use sqlite_std_file::OpenError;
 use sqlite_trees::store::Store as Trees;
 use std::fs;
-use store_table::format::{Note, recognise};
-use store_table::log::Log;
-use store_table::table::{Entries, read_log};
+use store_file::format::{Note, recognise};
+use store_file::log::Log;
+use store_file::table::{Entries, read_log};
 
 /// The root hash of what the file holds.
 fn root_of<S: Trees>(rt: &HostRuntime, log: &mut Log<S>, note: &Note) -> Result<RootHash, Failure>

@@ -11,7 +11,7 @@ use Rattle.csv.specs.declared.reader.Reader.{Reader}
 use Rattle.csv.specs.declared.reader.Trim.TheVariants as trim
 use Rattle.csv.specs.declared.writer.Writer.{Writer}
 use Rattle.csv.proofs.ReadFacts.{rows-end, rows-more}
-use Rattle.store_table.specs.declared.register.Register.{Register}
+use Rattle.store_file.specs.declared.register.Register.{Register}
 use Rattle.mst_commands.specs.Records.{field_or_empty, SaysEntry, SayEntries, HasRead, AreAll, ReadsOne, HasWritten, WritesRecords}
 
 -- the fields of a record of two

@@ -4,7 +4,7 @@ use Rattle.std.proofs.lemmas.List.{length-append, take_more}
 use Rattle.std.proofs.lemmas.List.Concat.{flat_map-append}
 use Rattle.std.proofs.lemmas.List.Elements.{filter_map-append}
 use Rattle.key_order.specs.Text.{Text as Key}
-use Rattle.store_table.specs.declared.register.Register.{Register}
+use Rattle.store_file.specs.declared.register.Register.{Register}
 use Rattle.mst_commands.specs.Lines.{Pair, line_as, pair_within, listed_lines}
 use Rattle.mst_commands.specs.declared.bounds.Bounds.{Bounds}
 

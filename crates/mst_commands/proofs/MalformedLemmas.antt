@@ -8,8 +8,8 @@ use Rattle.key_order.specs.Text.{Text as Key}
 use Rattle.csv.specs.Reading.{reader_state}
 use Rattle.csv.specs.Records.{field_at}
 use Rattle.csv.specs.declared.reader.Reader.{Reader}
-use Rattle.store_table.specs.Values.{bytes_of_value}
-use Rattle.store_table.specs.declared.value.Value.{Value}
+use Rattle.store_file.specs.Values.{bytes_of_value}
+use Rattle.store_file.specs.declared.value.Value.{Value}
 use Rattle.mst_commands.specs.Malformed.{BeginsWithRecords, EndsFor, IsBadText, IsImportRefused, IsNoName, IsParseRefused, LacksHeader, SaysNone, SaysNoChange}
 use Rattle.mst_commands.specs.Records.{change_fields, field_or_empty, HasRead, IsPairOf}
 use Rattle.mst_commands.specs.declared.fault.Fault.{Fault}

@@ -5,7 +5,7 @@ use Rattle.std.proofs.lemmas.List.Concat.{flat_map-append}
 use Rattle.std.proofs.lemmas.List.Sums.{fold-append}
 use Rattle.key_order.specs.Text.{Text as Key}
 use Rattle.csv.specs.Writing.{row_text, default_writer}
-use Rattle.store_table.specs.declared.register.Register.{Register}
+use Rattle.store_file.specs.declared.register.Register.{Register}
 use Rattle.mst_commands.specs.Records.{header, pair_text, pairs_text}
 
 count_more : {X : Type 0} (p : X → Bool) (xs : List X) (x : X) → count_by p (xs ++ x ∷ []) ≡ count_by p xs + cond (p x) 1 0

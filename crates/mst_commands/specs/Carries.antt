@@ -6,10 +6,10 @@ use Rattle.mst_words.specs.declared.command.StoreCommand.TheVariants.{Table}
 use Rattle.mst_words.specs.declared.command.TableCommand.TheVariants.{Put, Del, Import, Compact}
 use Rattle.mst_words.specs.declared.command.Wanted.{Wanted}
 use Rattle.sqlite_trees.specs.Tree.{Trees}
-use Rattle.store_table.specs.Rows.{IsCompacted}
-use Rattle.store_table.specs.Values.{IsValueOf}
-use Rattle.store_table.specs.declared.register.Register.{Register}
-use Rattle.store_table.specs.declared.value.Value.{Value}
+use Rattle.store_file.specs.Rows.{IsCompacted}
+use Rattle.store_file.specs.Values.{IsValueOf}
+use Rattle.store_file.specs.declared.register.Register.{Register}
+use Rattle.store_file.specs.declared.value.Value.{Value}
 use Rattle.mst_commands.specs.Imports.{Imports}
 use Rattle.mst_commands.specs.Writes.{IsMet, WritesBy}
 use Rattle.mst_commands.specs.declared.input.Input.{Input}

@@ -2,9 +2,9 @@
 use Rattle.std.specs.Prelude.{◌≡◌, ℕ, Bool, true, false, List, [], ◌∷◌, ◌++◌, length, Option, Some, None, string_bytes}
 use Rattle.key_order.specs.Text.{Text as Key}
 use Rattle.sqlite_trees.specs.Tree.{Trees}
-use Rattle.store_table.specs.declared.register.Register.{Register}
-use Rattle.store_table.specs.declared.value.Value.{Value}
-use Rattle.store_table.specs.declared.value.Value.TheVariants.{Text}
+use Rattle.store_file.specs.declared.register.Register.{Register}
+use Rattle.store_file.specs.declared.value.Value.{Value}
+use Rattle.store_file.specs.declared.value.Value.TheVariants.{Text}
 use Rattle.mst_commands.specs.Imports.{Imports}
 
 -- the writes that wait, the first one first, and whether a line among them failed

@@ -1,7 +1,7 @@
 -- Why a command ends early.
 use Rattle.std.specs.Prelude.{◌≡◌, ⊤, Result, IfErr}
 use Rattle.sqlite_trees.specs.declared.store.Store.{Ghosts}
-use Rattle.store_table.specs.Logs.{IsClean, trees_of}
+use Rattle.store_file.specs.Logs.{IsClean, trees_of}
 use Rattle.mst_commands.specs.declared.fault.Fault.{Fault}
 use Rattle.mst_commands.specs.declared.fault.Fault.TheVariants as fault
 

@@ -4,9 +4,9 @@ use Rattle.std.specs.Io.KnownBytes.{Appends}
 use Rattle.std.specs.Str.{bytes_eq}
 use Rattle.key_order.specs.Text.{Text as Key}
 use Rattle.sqlite_trees.specs.Tree.{Trees}
-use Rattle.store_table.specs.Entries.{HoldsEntries}
-use Rattle.store_table.specs.declared.register.Register.{Register}
-use Rattle.store_table.specs.declared.value.Value.{Value}
+use Rattle.store_file.specs.Entries.{HoldsEntries}
+use Rattle.store_file.specs.declared.register.Register.{Register}
+use Rattle.store_file.specs.declared.value.Value.{Value}
 use Rattle.mst_commands.specs.Escapes.{escaped_line, json_of}
 use Rattle.mst_commands.specs.Values.{value_line, said_member}
 

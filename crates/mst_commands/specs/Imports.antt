@@ -5,11 +5,11 @@ use Rattle.std.specs.List.{AllZip}
 use Rattle.key_order.specs.Text.{Text as Key, text_order}
 use Rattle.key_order.specs.Map.{get}
 use Rattle.sqlite_trees.specs.Tree.{Trees}
-use Rattle.store_table.specs.Changes.{HasMore}
-use Rattle.store_table.specs.Entries.{entry_row}
-use Rattle.store_table.specs.Registers.{is_later, time_after}
-use Rattle.store_table.specs.Rows.{AreLatest, HasLatestRows}
-use Rattle.store_table.specs.declared.register.Register.{Register}
+use Rattle.store_file.specs.Changes.{HasMore}
+use Rattle.store_file.specs.Entries.{entry_row}
+use Rattle.store_file.specs.Registers.{is_later, time_after}
+use Rattle.store_file.specs.Rows.{AreLatest, HasLatestRows}
+use Rattle.store_file.specs.declared.register.Register.{Register}
 
 -- the entry as this name writes it: at the clock's time, or one above that of the register that the rows have for its key
 pub record IsDated (rows : List (Key × Register)) (name : List ℕ) (now : ℕ) (entry dated : Key × Register) : Type 0 where

@@ -2,8 +2,8 @@
 use Rattle.std.specs.Prelude.{ℕ, Bool, List, [], ◌++◌, take, codes, string_bytes, Option, None, option_map, if◌then◌else◌, flat_map, filter_map}
 use Rattle.std.specs.Option.{option_map_or}
 use Rattle.key_order.specs.Text.{Text as Key}
-use Rattle.store_table.specs.declared.register.Register.{Register}
-use Rattle.store_table.specs.declared.value.Value.{Value}
+use Rattle.store_file.specs.declared.register.Register.{Register}
+use Rattle.store_file.specs.declared.value.Value.{Value}
 use Rattle.mst_commands.specs.Bounds.{is_in_bounds}
 use Rattle.mst_commands.specs.Escapes.{escaped_line, json_of}
 use Rattle.mst_commands.specs.Values.{value_line, value_member}

@@ -4,9 +4,9 @@ use Rattle.key_order.specs.Text.{Text as Key}
 use Rattle.csv.specs.Reading.{AreRecords, Reached, default_config, strip_bom}
 use Rattle.csv.specs.declared.parser.State.{State}
 use Rattle.csv.specs.declared.parser.State.TheVariants as st
-use Rattle.store_table.specs.Values.{bytes_of_value}
-use Rattle.store_table.specs.declared.register.Register.{Register}
-use Rattle.store_table.specs.declared.value.Value.{Value}
+use Rattle.store_file.specs.Values.{bytes_of_value}
+use Rattle.store_file.specs.declared.register.Register.{Register}
+use Rattle.store_file.specs.declared.value.Value.{Value}
 use Rattle.mst_commands.specs.Quotes.{is_quoted}
 use Rattle.mst_commands.specs.Records.{header, SaysEntry, SaysValue}
 use Rattle.mst_commands.specs.declared.fault.Fault.{Fault}

@@ -1,7 +1,7 @@
 -- What a pull would bring, in lines.
 use Rattle.std.specs.Prelude.{ℕ, Bool, List, ◌++◌, codes, decimal, string_bytes, if◌then◌else◌}
 use Rattle.key_order.specs.Text.{Text as Key}
-use Rattle.store_table.specs.declared.register.Register.{Register}
+use Rattle.store_file.specs.declared.register.Register.{Register}
 use Rattle.mst_commands.specs.Escapes.{escaped_line, json_of}
 use Rattle.mst_commands.specs.Values.{said_member}
 

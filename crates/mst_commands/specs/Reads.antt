@@ -4,15 +4,15 @@ use Rattle.std.specs.Global.{Vec}
 use Rattle.std.specs.Io.KnownBytes.{Appends}
 use Rattle.key_order.specs.Text.{Text as Key}
 use Rattle.sqlite_trees.specs.Tree.{Trees}
-use Rattle.store_table.specs.Entries.{HoldsEntries}
-use Rattle.store_table.specs.Latest.{IsLatestAt, said_by}
-use Rattle.store_table.specs.Rows.{HasLatestRows, says_value, is_removal, last_time}
-use Rattle.store_table.specs.Sifting.{AreSifted}
-use Rattle.store_table.specs.Values.{bytes_of_value}
-use Rattle.store_table.specs.declared.register.Register.{Register}
-use Rattle.store_table.specs.declared.rows.Summary.{Summary}
-use Rattle.store_table.specs.declared.sifting.BadRow.{BadRow}
-use Rattle.store_table.specs.declared.value.Value.{Value}
+use Rattle.store_file.specs.Entries.{HoldsEntries}
+use Rattle.store_file.specs.Latest.{IsLatestAt, said_by}
+use Rattle.store_file.specs.Rows.{HasLatestRows, says_value, is_removal, last_time}
+use Rattle.store_file.specs.Sifting.{AreSifted}
+use Rattle.store_file.specs.Values.{bytes_of_value}
+use Rattle.store_file.specs.declared.register.Register.{Register}
+use Rattle.store_file.specs.declared.rows.Summary.{Summary}
+use Rattle.store_file.specs.declared.sifting.BadRow.{BadRow}
+use Rattle.store_file.specs.declared.value.Value.{Value}
 use Rattle.mst_commands.specs.Escapes.{json_of}
 use Rattle.mst_commands.specs.Lines.{list_of}
 use Rattle.mst_commands.specs.Records.{pairs_text, log_text}

@@ -11,9 +11,9 @@ use Rattle.csv.specs.declared.parser.State.TheVariants as st
 use Rattle.csv.specs.declared.reader.Reader.{Reader}
 use Rattle.csv.specs.declared.reader.Trim.TheVariants as trim
 use Rattle.csv.specs.declared.writer.Writer.{Writer}
-use Rattle.store_table.specs.Values.{bytes_of_value, IsFormed}
-use Rattle.store_table.specs.declared.register.Register.{Register}
-use Rattle.store_table.specs.declared.value.Value.{Value}
+use Rattle.store_file.specs.Values.{bytes_of_value, IsFormed}
+use Rattle.store_file.specs.declared.register.Register.{Register}
+use Rattle.store_file.specs.declared.value.Value.{Value}
 use Rattle.mst_commands.specs.Lines.{Pair, listed_pair}
 
 -- the names of the fields, in the first record

@@ -1,8 +1,8 @@
 -- Values in a line, and as members of objects of JSON.
 use Rattle.std.specs.Prelude.{ℕ, List, ◌++◌, codes, string_bytes, Option, Some, None}
 use Rattle.merkle_digest.specs.Digest.{base64_of}
-use Rattle.store_table.specs.declared.value.Value.{Value}
-use Rattle.store_table.specs.declared.value.Value.TheVariants.{Text, Bytes}
+use Rattle.store_file.specs.declared.value.Value.{Value}
+use Rattle.store_file.specs.declared.value.Value.TheVariants.{Text, Bytes}
 use Rattle.mst_commands.specs.Escapes.{escaped_line, json_of}
 
 -- a text in a line, or the base64 of other bytes after what begins no text's line, where a backslash is before no b

@@ -4,9 +4,9 @@ use Rattle.std.specs.Option.{option_map_or}
 use Rattle.std.specs.Str.{bytes_eq}
 use Rattle.key_order.specs.Text.{Text as Key}
 use Rattle.sqlite_trees.specs.Tree.{Trees}
-use Rattle.store_table.specs.Latest.{WritesOver}
-use Rattle.store_table.specs.declared.value.Value.{Value}
-use Rattle.store_table.specs.declared.value.Value.TheVariants as form
+use Rattle.store_file.specs.Latest.{WritesOver}
+use Rattle.store_file.specs.declared.value.Value.{Value}
+use Rattle.store_file.specs.declared.value.Value.TheVariants as form
 use Rattle.mst_words.specs.declared.command.Wanted.{Wanted}
 use Rattle.mst_words.specs.declared.command.Wanted.TheVariants as wanted
 use Rattle.mst_commands.specs.Reads.{IsValueAt}

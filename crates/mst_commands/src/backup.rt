@@ -1,13 +1,13 @@
 //! A store made of the entries of another one.
-ghost use Rattle.store_table.specs.Logs.{Makes};
+ghost use Rattle.store_file.specs.Logs.{Makes};
 ghost use Rattle.mst_commands.specs.Copies.{IsCopyOf};
 
 use sqlite_trees::store::Store;
 use std::alloc::Global;
-use store_table::format::{FORMAT, HASH_KEY_LEN, create};
-use store_table::log::Log;
-use store_table::table::add_all;
-use store_table::{Register, StoreFault};
+use store_file::format::{FORMAT, HASH_KEY_LEN, create};
+use store_file::log::Log;
+use store_file::table::add_all;
+use store_file::{Register, StoreFault};
 
 /// Makes a store of these entries in tables without rows, which writes by this name.
 ///

@@ -1,6 +1,6 @@
 //! Writes that land together.
 ghost use Rattle.std.specs.Prelude.{◌≡◌, [], None, false, true, OnErr, OnOk};
-ghost use Rattle.store_table.specs.Logs.{Leaves, MakesAndFinds, StaysInErr, OnlyReads};
+ghost use Rattle.store_file.specs.Logs.{Leaves, MakesAndFinds, StaysInErr, OnlyReads};
 ghost use Rattle.mst_commands.specs.Changing.{Lands, PutWaitsToo, WaitsToo};
 ghost use Rattle.mst_commands.specs.Imports.{Imports};
 
@@ -10,10 +10,10 @@ use sqlite_trees::store::Store;
 use std::alloc::Global;
 use std::collections::BTreeMap;
 use std::marker::Model;
-use store_table::latest::{find, value_of};
-use store_table::log::Log;
-use store_table::table::Entries;
-use store_table::{Register, Value};
+use store_file::latest::{find, value_of};
+use store_file::log::Log;
+use store_file::table::Entries;
+use store_file::{Register, Value};
 
 /// Writes that wait, the first one first.
 #[derive(Drop)]

@@ -1,14 +1,14 @@
 //! Rows of the table that are no entries.
 ghost use Rattle.std.specs.Prelude.{◌≡◌, [], IfErr, OnOk};
-ghost use Rattle.store_table.specs.Logs.{Shows, OnlyReads};
+ghost use Rattle.store_file.specs.Logs.{Shows, OnlyReads};
 ghost use Rattle.mst_commands.specs.Faults.{IsDevice};
 ghost use Rattle.mst_commands.specs.Reads.{AreEntryRows};
 
 use crate::escape::cut;
 use crate::fault::Fault;
 use sqlite_trees::store::Store;
-use store_table::log::Log;
-use store_table::sifting::{BadRow, sift};
+use store_file::log::Log;
+use store_file::sifting::{BadRow, sift};
 
 /// Names a row on standard error, if that takes it.
 fn tell_row(rt: &HostRuntime, row: &BadRow) -> Result<(), Fault>

@@ -5,7 +5,7 @@ ghost use Rattle.mst_commands.specs.Malformed.{IsCommandFailure};
 use csv::ErrorKind;
 use std::alloc::{AllocError, AllocFailed};
 use std::{fmt, io};
-use store_table::StoreFault;
+use store_file::StoreFault;
 
 /// What is said of an entry that isn't taken.
 #[derive(Debug, Drop)]
@@ -70,7 +70,7 @@ impl From<StoreFault> for Fault {
 }
 
 impl From<AllocError> for Fault {
-    ghost use Rattle.store_table.specs.declared.fault.StoreFault.TheVariants.{Memory};
+    ghost use Rattle.store_file.specs.declared.fault.StoreFault.TheVariants.{Memory};
     ghost use Rattle.mst_commands.specs.declared.fault.Fault.TheVariants.{Store};
 
     ghost from_gives = { λ _ made. made ≡ Store Memory };
@@ -81,7 +81,7 @@ impl From<AllocError> for Fault {
 }
 
 impl<T: Drop> From<AllocFailed<T>> for Fault {
-    ghost use Rattle.store_table.specs.declared.fault.StoreFault.TheVariants.{Memory};
+    ghost use Rattle.store_file.specs.declared.fault.StoreFault.TheVariants.{Memory};
     ghost use Rattle.mst_commands.specs.declared.fault.Fault.TheVariants.{Store};
 
     ghost from_gives = { λ _ made. made ≡ Store Memory };

@@ -1,7 +1,7 @@
 //! The rows of a key, in lines.
 ghost use Rattle.std.specs.Prelude.{◌≡◌, flat_map, string_bytes, IfOk, IfErr, OnOk};
 ghost use Rattle.std.specs.Io.KnownBytes.{Appends};
-ghost use Rattle.store_table.specs.Logs.{Shows, OnlyReads};
+ghost use Rattle.store_file.specs.Logs.{Shows, OnlyReads};
 ghost use Rattle.mst_commands.specs.Faults.{StaysAtDevice};
 ghost use Rattle.mst_commands.specs.History.{WritesHistory, change_line, change_object, change_text, history_line};
 ghost use Rattle.mst_commands.specs.Malformed.{IsCommandFailure};
@@ -12,9 +12,9 @@ use crate::values::{in_line, said_as_member};
 use sqlite_trees::store::Store;
 use std::alloc::Global;
 use std::io::Write;
-use store_table::log::Log;
-use store_table::table::read_log;
-use store_table::{Register, Value};
+use store_file::log::Log;
+use store_file::table::read_log;
+use store_file::{Register, Value};
 
 /// Writes what was done to the key, after the time and the writer.
 fn write_change<W: Write>(alloc: Global, out: &mut W, value: &Option<Value>) -> Result<(), Fault>

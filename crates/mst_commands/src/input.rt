@@ -1,6 +1,6 @@
 //! What a command reads from standard input.
 ghost use Rattle.std.specs.Prelude.{◌≡◌, IfOk};
-ghost use Rattle.store_table.specs.Values.{IsValueOf};
+ghost use Rattle.store_file.specs.Values.{IsValueOf};
 ghost use Rattle.mst_commands.specs.Carries.{IsInputOf, imported_entries, value_of as value_from};
 
 use crate::fault::Fault;
@@ -8,8 +8,8 @@ use crate::records::read_entries;
 use crate::writing::read_bytes;
 use mst_words::{StoreCommand, TableCommand};
 use std::alloc::{AllocError, Global};
-use store_table::Value;
-use store_table::table::Entries;
+use store_file::Value;
+use store_file::table::Entries;
 
 /// What a command has from standard input, which is read to its end before a file is opened.
 #[derive(Drop)]

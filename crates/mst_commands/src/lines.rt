@@ -10,7 +10,7 @@ use crate::fault::Fault;
 use crate::values::{as_member, in_line};
 use std::alloc::Global;
 use std::io::Write;
-use store_table::{Register, Value};
+use store_file::{Register, Value};
 
 /// Writes a key and its value as a line.
 fn write_line<W: Write>(alloc: Global, out: &mut W, key: &str, value: &Value) -> Result<(), Fault>

@@ -9,7 +9,7 @@ use crate::records::finish;
 use csv::Writer;
 use std::alloc::Global;
 use std::io::Write;
-use store_table::Register;
+use store_file::Register;
 
 /// Writes a record of five fields.
 fn write_five<'a, W: Write + Drop>(

@@ -9,7 +9,7 @@ use crate::fault::Fault;
 use crate::values::said_as_member;
 use std::alloc::Global;
 use std::io::Write;
-use store_table::Register;
+use store_file::Register;
 
 /// Writes the key of an entry.
 fn write_key<W: Write>(alloc: Global, out: &mut W, entry: &(String, Register)) -> Result<(), Fault>

@@ -1,7 +1,7 @@
 //! The commands that read.
 ghost use Rattle.std.specs.Prelude.{◌≡◌, ◌≢◌, ◌+◌, if◌then◌else◌, ◌++◌, [], ◌∷◌, length, string_bytes, IfOk, IfErr, OnOk};
 ghost use Rattle.std.specs.Io.KnownBytes.{Appends};
-ghost use Rattle.store_table.specs.Logs.{Finds, Shows, Refuses, OnlyReads};
+ghost use Rattle.store_file.specs.Logs.{Finds, Shows, Refuses, OnlyReads};
 ghost use Rattle.mst_commands.specs.Faults.{IsDevice, StaysAtDevice};
 ghost use Rattle.mst_commands.specs.Malformed.{IsCommandFailure};
 ghost use Rattle.mst_commands.specs.Reads.{IsValueAt, WritesValue, WritesList, WritesCount, WritesStatus, WritesPairs, WritesLog, WritesSifted};
@@ -16,11 +16,11 @@ use crate::records::{begin_pairs, finish, write_row};
 use sqlite_trees::store::Store;
 use std::alloc::Global;
 use std::io::Write;
-use store_table::log::Log;
-use store_table::reader::{begin, next_latest};
-use store_table::rows::Summary;
-use store_table::sifting::{BadRow, Sifted, sift};
-use store_table::{Register, StoreFault, Value, latest};
+use store_file::log::Log;
+use store_file::reader::{begin, next_latest};
+use store_file::rows::Summary;
+use store_file::sifting::{BadRow, Sifted, sift};
+use store_file::{Register, StoreFault, Value, latest};
 
 /// The value of a key.
 fn value_at<S: Store>(alloc: Global, log: &mut Log<S>, key: &str) -> Result<Option<Value>, Fault>

@@ -3,7 +3,7 @@ ghost use Rattle.std.specs.Prelude.{◌≡◌, ◌≢◌, ◌<◌, [], ◌∷◌
 ghost use Rattle.std.specs.Io.KnownBytes.{Keeps};
 ghost use Rattle.csv.specs.Records.{fields_of};
 ghost use Rattle.csv.specs.Writing.{text_written};
-ghost use Rattle.store_table.specs.Values.{IsValueOf};
+ghost use Rattle.store_file.specs.Values.{IsValueOf};
 ghost use Rattle.mst_commands.specs.Records.{header, field_or_empty, pair_text, pairs_text, SaysPair, SaysChange, SaysEntry, SaysValue, SpellsNumber};
 ghost use Rattle.mst_commands.specs.Records.{HasEntries, HasRead, HasWritten, ReadsOne, WritesRecord, WritesRecords};
 ghost use Rattle.mst_commands.specs.Malformed.{EndsForHeader, EndsForRecord, IsCommandFailure, IsImportRefused, IsNoName, IsParseRefused, SaysNoChange, SaysNone};
@@ -14,8 +14,8 @@ use crate::quotes::expect_quotes;
 use csv::{ByteRecord, Reader, ReaderBuilder, Writer};
 use std::alloc::Global;
 use std::io::{Read, Write};
-use store_table::table::Entries;
-use store_table::{Register, StoreFault, Value};
+use store_file::table::Entries;
+use store_file::{Register, StoreFault, Value};
 
 /// How many bytes a key or a value has at most: 1 MiB.
 pub const MOST: usize = 1_048_576;

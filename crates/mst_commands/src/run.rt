@@ -1,6 +1,6 @@
 //! A command on an open store.
 ghost use Rattle.std.specs.Prelude.{◌≡◌, IfErr, OnOk};
-ghost use Rattle.store_table.specs.Logs.{OnlyReads, Writes};
+ghost use Rattle.store_file.specs.Logs.{OnlyReads, Writes};
 ghost use Rattle.mst_commands.specs.Carries.{Carries, Compacts, ImportsInput, Puts, value_of as value_from};
 ghost use Rattle.mst_commands.specs.Faults.{IsDevice, StaysAtDevice};
 ghost use Rattle.mst_words.specs.declared.command.StoreCommand.TheVariants.{Table};
@@ -16,8 +16,8 @@ use crate::writing::{del, import, put_if, put_value};
 use mst_words::{Selection, TableCommand, Wanted};
 use sqlite_trees::store::Store;
 use std::io::{self, BufWriter, ErrorKind, Write};
-use store_table::log::Log;
-use store_table::rows::compact;
+use store_file::log::Log;
+use store_file::rows::compact;
 
 /// Writes the text that is given, or the value of standard input, if the key is as it is wanted.
 fn put_given<S: Store>(

@@ -7,7 +7,7 @@ ghost use Rattle.mst_commands.specs.Values.{value_line, value_member, said_membe
 use crate::escape::{escape, json_string};
 use base64::engine::general_purpose::STANDARD;
 use std::alloc::{AllocError, Global};
-use store_table::Value;
+use store_file::Value;
 
 /// Bytes that are no text, in a line.
 fn bytes_in_line(alloc: Global, bytes: &[u8]) -> Result<String, AllocError>

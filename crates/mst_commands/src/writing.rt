@@ -2,9 +2,9 @@
 ghost use Rattle.std.specs.Prelude.{◌≡◌, ◌≢◌, ◌≤◌, ◌<◌, ◌⊎◌, length, filter, All, IfOk, IfErr, OnOk, true, false};
 ghost use Rattle.key_order.specs.Text.{text_order};
 ghost use Rattle.key_order.specs.Map.{IsMap};
-ghost use Rattle.store_table.specs.Latest.{IsThere};
-ghost use Rattle.store_table.specs.Logs.{trees_of, Finds, Shows, Refuses, OnlyReads, Writes};
-ghost use Rattle.store_table.specs.Values.{bytes_of_value};
+ghost use Rattle.store_file.specs.Latest.{IsThere};
+ghost use Rattle.store_file.specs.Logs.{trees_of, Finds, Shows, Refuses, OnlyReads, Writes};
+ghost use Rattle.store_file.specs.Values.{bytes_of_value};
 ghost use Rattle.mst_commands.specs.Faults.{IsAhead, IsTooLong};
 ghost use Rattle.mst_commands.specs.Writes.{is_met as says_it, is_text as is_same_text, IsMet, WritesBy, WritesIf};
 ghost use Rattle.mst_commands.specs.Malformed.{IsCommandFailure};
@@ -17,11 +17,11 @@ use mst_words::Wanted;
 use sqlite_trees::store::Store;
 use std::alloc::{AllocError, Global};
 use std::io::Read;
-use store_table::latest::{find, put, remove, value_of};
-use store_table::log::Log;
-use store_table::rows::{latest_rows, read_latest, register_in};
-use store_table::table::{Entries, add_all};
-use store_table::{Register, StoreFault, Value};
+use store_file::latest::{find, put, remove, value_of};
+use store_file::log::Log;
+use store_file::rows::{latest_rows, read_latest, register_in};
+use store_file::table::{Entries, add_all};
+use store_file::{Register, StoreFault, Value};
 
 /// Refuses a key or a value of more than 1 MiB.
 ///

@@ -5,7 +5,7 @@ use sqlite_store::FileStore;
 use sqlite_trees::error::StoreError;
 use std::fs;
 use store_file::Unsure;
-use store_table::log::Log;
+use store_file::log::Log;
 
 /// The trees of a store's file.
 pub type FileTrees = FileStore<Unsure<File>>;

@@ -5,8 +5,7 @@ use sqlite_trees::error::StoreError;
 use std::alloc::AllocError;
 use std::io::ErrorKind;
 use std::{fmt, io};
-use store_file::OpenFault;
-use store_table::StoreFault;
+use store_file::{OpenFault, StoreFault};
 
 /// Why the file of a store isn't opened, closed or made, or why a command on it failed.
 #[derive(Debug, Drop)]

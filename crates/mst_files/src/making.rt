@@ -11,9 +11,9 @@ use std::fs::{self, OpenOptions};
 use std::hash::{BuildHasher, RandomState};
 use std::io::{self, ErrorKind};
 use std::os::unix::fs::OpenOptionsExt;
-use store_table::format::HASH_KEY_LEN;
-use store_table::log::Log;
-use store_table::table::Entries;
+use store_file::format::HASH_KEY_LEN;
+use store_file::log::Log;
+use store_file::table::Entries;
 
 /// A random number.
 fn random(rt: &HostRuntime) -> Result<u64, FileFault> {

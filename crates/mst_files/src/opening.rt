@@ -12,8 +12,8 @@ use std::fs;
 use std::thread::sleep;
 use std::time::Duration;
 use store_file::Unsure;
-use store_table::format::recognise;
-use store_table::log::Log;
+use store_file::format::recognise;
+use store_file::log::Log;
 
 /// Whether there is such a file.
 fn is_there(rt: &HostRuntime, path: &str) -> Result<bool, OpenError> {

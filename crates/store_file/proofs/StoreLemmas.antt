@@ -50,11 +50,12 @@ module _ {D : Type 0} {g : Ghosts D} where
 
   pub is_laid_out : (it : FileStore D g) → IsReady it → schema_of it ≡ laid_out → IsTrue (view it).is_clean → IsLaidOut (view it)
   is_laid_out it ready schema clean = record {
-    entries = rw schema entries_shape;
-    about = rw schema about_shape;
-    shape = sym (ap (λ o. all_shapes (kept_schema o (schema_of it))) ready.unaltered);
-    sound = ready.sound (no_doubt _ clean);
-    trees = ready.clean;
+    tables = record {
+      entries = rw schema entries_shape;
+      about = rw schema about_shape;
+      settled = sym (ap (λ o. all_shapes (kept_schema o (schema_of it))) ready.unaltered);
+    };
+    rest = record { sound = ready.sound (no_doubt _ clean); settled = ready.clean };
   }
 
   -- no savepoint has another schema

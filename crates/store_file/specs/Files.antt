@@ -1,5 +1,5 @@
 -- What the two files hold, and what a store over them shows.
-use Rattle.std.specs.Prelude.{◌≡◌, ◌⊎◌, ℕ, false, List, []}
+use Rattle.std.specs.Prelude.{◌≡◌, ◌⊎◌, ℕ, List, []}
 use Rattle.sqlite_disk.specs.declared.Disk.{Ghosts}
 use Rattle.sqlite_disk.specs.declared.Files as disk
 use Rattle.sqlite_wal.specs.Recovery.{Image}
@@ -9,10 +9,8 @@ use Rattle.sqlite_wal.specs.PageSize.{IsPageSize}
 use Rattle.sqlite_pages.specs.PageMap.{PageMap}
 use Rattle.sqlite_pool.specs.Stored.{stored_size, Recovers}
 use Rattle.sqlite_pool.specs.Opening.{IsBlankFile}
-use Rattle.sqlite_value.specs.Keys.{plain}
 use Rattle.sqlite_trees.specs.Tree.{Trees}
 use Rattle.sqlite_trees.specs.View.{View}
-use Rattle.sqlite_trees.specs.declared.store.Shape.TheVariants.{Table, Index}
 use Rattle.sqlite_store.specs.declared.catalog.Wanted.{Wanted}
 use Rattle.sqlite_store.specs.declared.store.FileStore.{FileStore}
 use Rattle.sqlite_store.specs.Db.{IsFile}
@@ -20,6 +18,7 @@ use Rattle.sqlite_store.specs.FileStore.{state, schema_of, files, recovers, IsUn
 use Rattle.sqlite_store.specs.Listing.{file_trees}
 use Rattle.sqlite_store.specs.Opening.{IsEmptyFile}
 use Rattle.store_file.specs.Catalog.{laid_out}
+use Rattle.store_file.specs.Logs.{HasTables, IsAtRest}
 
 -- the two files recover to a sound database of these objects, whose trees these are
 pub record Holds (schema : List Wanted) (image : Image) (db : Trees) : Type 0 where
@@ -57,11 +56,8 @@ pub record HasStoreTables {D : Type 0} {g : Ghosts D} (it : FileStore D g) : Typ
 
 -- a store with the two trees, in which nothing is written that isn't committed
 pub record IsLaidOut (v : View) : Type 0 where
-  pub entries : v.shape 0 ≡ Index plain
-  pub about : v.shape 1 ≡ Table
-  pub shape : v.shape ≡ v.committed_shape
-  pub sound : v.is_broken ≡ false
-  pub trees : v.trees ≡ v.committed
+  pub tables : HasTables v
+  pub rest : IsAtRest v
 
 abbrev pub image_of : {D : Type 0} → Ghosts D → disk.Files D → Image
 image_of g files = seen_image g files.log files.db

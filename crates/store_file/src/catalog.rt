@@ -90,7 +90,7 @@ fn are_former(rows: &[Row]) -> bool
 /// # Errors
 ///
 /// [`OpenFault::Format`] for those of a store in an earlier format, and [`OpenFault::Foreign`] for others.
-pub fn recognise(rows: &[Row]) -> Result<(), OpenFault>
+pub fn expect_tables(rows: &[Row]) -> Result<(), OpenFault>
     ensures { MatchResult result (λ _. Lists ENTRIES_SQL.now ABOUT_SQL.now rows.now) (RefusesTables rows.now) }
 {
     if lists(rows, ENTRIES_SQL, ABOUT_SQL) {

@@ -8,7 +8,7 @@ ghost use Rattle.sqlite_store.specs.Unopened.{state_of, files_of, wanted_by};
 ghost use Rattle.store_file.specs.Catalog.{open_fault_of, laid_out};
 ghost use Rattle.store_file.specs.Files.{HasStoreTables, HoldsStore, HoldsTrees, HoldsNothing, IsLaidOut, KeepStore, LeavesStore, image_of};
 
-use crate::catalog::{objects, recognise};
+use crate::catalog::{expect_tables, objects};
 use crate::fault::{OpenFault, ReopenFault, fault_of, fault_of_probe};
 use sqlite_disk::{Disk, Files, Tally, digest_of};
 use sqlite_pager::{Options, Pager};
@@ -105,7 +105,7 @@ pub fn open<D: Disk + Drop>(alloc: Global, files: Files<D>) -> Result<FileStore<
     let mut fresh = unopened(alloc, files, size)?;
     let before = fresh.tally();
     match fresh.read_catalog() {
-        Ok(rows) => recognise(rows.as_slice())?,
+        Ok(rows) => expect_tables(rows.as_slice())?,
         Err(error) => return Err(named(error, before, &fresh)),
     }
     match fresh.open_trusted() {

@@ -5,7 +5,7 @@ use Rattle.merkle_replica.specs.Contents.{side}
 use Rattle.merkle_wire.specs.Next.{IsNext}
 use Rattle.merkle_wire.specs.declared.catching_up.Next.TheVariants.{Ask, Came}
 use Rattle.merkle_delta.specs.Hearing.{IsHeard}
-use Rattle.store_table.specs.WireRegisters.{register_encoding}
+use Rattle.store_file.specs.WireRegisters.{register_encoding}
 use Rattle.merkle_store.specs.Exchanges.{BeginsCatchUp}
 use Rattle.merkle_store.specs.Framing.{Streams, frame_of}
 use Rattle.merkle_store.specs.Sessions.{entry_laws, text_key_encoding}

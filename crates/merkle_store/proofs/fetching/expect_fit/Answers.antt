@@ -2,7 +2,7 @@ use Rattle.std.proofs.Common.{◌<◌, ◌≤◌, All, length, subst, arith}
 use Rattle.std.proofs.lemmas.List.{take_all}
 use Rattle.std.proofs.lemmas.List.Elements.{All-more}
 use Rattle.key_order.specs.Text.{Text}
-use Rattle.store_table.specs.declared.register.Register.{Register}
+use Rattle.store_file.specs.declared.register.Register.{Register}
 use Rattle.merkle_store.specs.Fetches.{IsShortEntry}
 use Rattle.merkle_store.specs.News.{AreTimely}
 use Rattle.merkle_store.proofs.fetching.expect_fit.Goals as goal

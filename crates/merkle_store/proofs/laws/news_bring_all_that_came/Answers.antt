@@ -1,7 +1,7 @@
 use Rattle.std.specs.String.{string_cmp_total}
-use Rattle.store_table.specs.contracts.register.RegisterEq.TheImpl.Laws.{laws-law}
-use Rattle.store_table.specs.contracts.register.RegisterOrd.TheImpl.Laws.{total-law}
-use Rattle.store_table.specs.contracts.registers.RegisterJoin.TheImpl.Laws.{joining-law}
+use Rattle.store_file.specs.contracts.register.RegisterEq.TheImpl.Laws.{laws-law}
+use Rattle.store_file.specs.contracts.register.RegisterOrd.TheImpl.Laws.{total-law}
+use Rattle.store_file.specs.contracts.registers.RegisterJoin.TheImpl.Laws.{joining-law}
 use Rattle.merkle_store.specs.News.{later_entries}
 use Rattle.merkle_store.proofs.Growing.{grown_join_the_same}
 use Rattle.merkle_store.proofs.Keeping.{gathers_same}

@@ -1,9 +1,9 @@
 use Rattle.std.proofs.Common.{map, ap, sym, ◌∙◌}
 use Rattle.std.specs.String.{string_cmp_total}
-use Rattle.store_table.specs.Entries.{note_in}
-use Rattle.store_table.specs.contracts.register.RegisterEq.TheImpl.Laws.{laws-law}
-use Rattle.store_table.specs.contracts.register.RegisterOrd.TheImpl.Laws.{matches_eq-law}
-use Rattle.store_table.specs.contracts.registers.RegisterJoin.TheImpl.Laws.{joining-law}
+use Rattle.store_file.specs.Entries.{note_in}
+use Rattle.store_file.specs.contracts.register.RegisterEq.TheImpl.Laws.{laws-law}
+use Rattle.store_file.specs.contracts.register.RegisterOrd.TheImpl.Laws.{matches_eq-law}
+use Rattle.store_file.specs.contracts.registers.RegisterJoin.TheImpl.Laws.{joining-law}
 use Rattle.merkle_store.proofs.Keeping.{kept_all}
 use Rattle.merkle_store.proofs.laws.what_is_added_is_joined.Goals as goal
 

@@ -1,7 +1,7 @@
 use Rattle.std.specs.String.{string_cmp_total}
-use Rattle.store_table.specs.contracts.register.RegisterEq.TheImpl.Laws.{laws-law}
-use Rattle.store_table.specs.contracts.register.RegisterOrd.TheImpl.Laws.{total-law, matches_eq-law}
-use Rattle.store_table.specs.contracts.registers.RegisterJoin.TheImpl.Laws.{joining-law}
+use Rattle.store_file.specs.contracts.register.RegisterEq.TheImpl.Laws.{laws-law}
+use Rattle.store_file.specs.contracts.register.RegisterOrd.TheImpl.Laws.{total-law, matches_eq-law}
+use Rattle.store_file.specs.contracts.registers.RegisterJoin.TheImpl.Laws.{joining-law}
 use Rattle.merkle_store.proofs.Found.{found_kept}
 use Rattle.merkle_store.proofs.laws.what_is_found_is_kept.Goals as goal
 

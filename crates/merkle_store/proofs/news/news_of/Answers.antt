@@ -2,7 +2,7 @@ use Rattle.std.proofs.Common.{rules}
 use Rattle.std.proofs.lemmas.Fn.{filter_same}
 use Rattle.key_order.specs.Text.{text_order}
 use Rattle.key_order.specs.Map.{get}
-use Rattle.store_table.specs.Registers.{is_later}
+use Rattle.store_file.specs.Registers.{is_later}
 use Rattle.merkle_store.proofs.news.news_of.Goals as goal
 
 pub returns : goal.returns

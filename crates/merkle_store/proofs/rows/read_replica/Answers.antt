@@ -1,8 +1,8 @@
 use Rattle.std.specs.String.{string_cmp_total}
-use Rattle.store_table.specs.contracts.register.RegisterEq.TheImpl.Laws.{laws-law}
-use Rattle.store_table.specs.contracts.registers.RegisterJoin.TheImpl.Laws.{joining-law}
-use Rattle.store_table.specs.Logs.{trees_of}
-use Rattle.store_table.proofs.Outcomes.{if_ok}
+use Rattle.store_file.specs.contracts.register.RegisterEq.TheImpl.Laws.{laws-law}
+use Rattle.store_file.specs.contracts.registers.RegisterJoin.TheImpl.Laws.{joining-law}
+use Rattle.store_file.specs.Logs.{trees_of}
+use Rattle.store_file.proofs.Outcomes.{if_ok}
 use Rattle.merkle_store.proofs.Keeping.{kept_read}
 use Rattle.merkle_store.proofs.rows.read_replica.Goals as goal
 

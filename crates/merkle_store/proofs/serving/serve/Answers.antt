@@ -7,7 +7,7 @@ use Rattle.merkle_replica.proofs.SideLaws.{same_side}
 use Rattle.merkle_replica.specs.Contents.{tree_map}
 use Rattle.merkle_tree_theory.specs.Canonical.{IsCanonicalRoot, IsTreeOf}
 use Rattle.merkle_tree_theory.specs.State.{SameSettings}
-use Rattle.store_table.specs.WireRegisters.{register_encoding}
+use Rattle.store_file.specs.WireRegisters.{register_encoding}
 use Rattle.merkle_store.specs.Exchanges.{IsMessageAnswered, IsToldReply}
 use Rattle.merkle_store.specs.Framing.{HasCome, frame_of}
 use Rattle.merkle_store.specs.Sessions.{entry_laws, text_key_encoding}

@@ -1,6 +1,6 @@
 use Rattle.std.proofs.lemmas.Result.{err_from_is_err_and}
-use Rattle.store_table.specs.Changes.{HasEntriesMore}
-use Rattle.store_table.proofs.Calls.{writes_then}
+use Rattle.store_file.specs.Changes.{HasEntriesMore}
+use Rattle.store_file.proofs.Calls.{writes_then}
 use Rattle.mst.proofs.sessions.add_news.Goals as goal
 
 pub returns : goal.returns

@@ -1,8 +1,8 @@
 use Rattle.std.proofs.Common.{subst, arith}
 use Rattle.std.proofs.lemmas.Result.{err_from_is_err_and}
 use Rattle.sqlite_trees.specs.Tree.{Trees}
-use Rattle.store_table.specs.Logs.{IsClean}
-use Rattle.store_table.proofs.Calls.{reads_then}
+use Rattle.store_file.specs.Logs.{IsClean}
+use Rattle.store_file.proofs.Calls.{reads_then}
 use Rattle.merkle_store.specs.Kept.{AreRowsOf}
 use Rattle.mst.proofs.sessions.rows_of.Goals as goal
 

@@ -1,5 +1,5 @@
 use Rattle.std.proofs.lemmas.Result.{err_from_is_err_and}
-use Rattle.store_table.proofs.Calls.{reads_then}
+use Rattle.store_file.proofs.Calls.{reads_then}
 use Rattle.mst.proofs.tasks.whole_of.Goals as goal
 
 pub returns-clause-reads : goal.returns-clause-reads

@@ -2,8 +2,8 @@ use Rattle.std.proofs.Common.{◌≡◌, ◌<◌, List, length, take, flat_map, 
 use Rattle.std.proofs.lemmas.List.{take_all}
 use Rattle.key_order.specs.Text.{Text as Key}
 use Rattle.csv.specs.Writing.{row_text, default_writer}
-use Rattle.store_table.specs.declared.register.Register.{Register}
-use Rattle.store_table.proofs.Outcomes.{if_ok}
+use Rattle.store_file.specs.declared.register.Register.{Register}
+use Rattle.store_file.proofs.Outcomes.{if_ok}
 use Rattle.mst_commands.specs.Records.{header, entry_text, log_text, IsBeforeRecord, WritesRecords}
 use Rattle.mst_commands.proofs.LineLemmas.{pieces_more}
 use Rattle.mst_commands.proofs.CsvLemmas.{writes_then, writes_none, written_all}

@@ -1,6 +1,6 @@
 use Rattle.std.proofs.Common.{[], ◌∷◌, ◌++◌, decimal, ap, subst, ◌∙◌}
 use Rattle.std.specs.Io.KnownBytes.{Appends}
-use Rattle.store_table.proofs.Outcomes.{on_ok}
+use Rattle.store_file.proofs.Outcomes.{on_ok}
 use Rattle.mst_commands.proofs.reading.count.Goals as goal
 
 pub returns-clause-written : goal.returns-clause-written

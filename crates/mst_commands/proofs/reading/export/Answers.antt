@@ -1,10 +1,10 @@
 use Rattle.std.proofs.Common.{◌++◌, ◌∷◌, [], Option, subst}
 use Rattle.std.proofs.lemmas.Result.{err_from_is_err_and}
 use Rattle.key_order.specs.Text.{Text as Key}
-use Rattle.store_table.proofs.Calls.{walk_reads, walk_then}
-use Rattle.store_table.proofs.Outcomes.{if_ok}
-use Rattle.store_table.specs.Reading.{WalksOn}
-use Rattle.store_table.specs.declared.register.Register.{Register}
+use Rattle.store_file.proofs.Calls.{walk_reads, walk_then}
+use Rattle.store_file.proofs.Outcomes.{if_ok}
+use Rattle.store_file.specs.Reading.{WalksOn}
+use Rattle.store_file.specs.declared.register.Register.{Register}
 use Rattle.mst_commands.specs.Records.{pair_text, pairs_text}
 use Rattle.mst_commands.proofs.CsvLemmas.{written_more, written_out}
 use Rattle.mst_commands.proofs.ReadLemmas.{pairs_more}

@@ -1,7 +1,7 @@
 use Rattle.std.proofs.Common.{subst, Option}
-use Rattle.store_table.specs.Logs.{trees_of}
-use Rattle.store_table.specs.declared.value.Value.{Value}
-use Rattle.store_table.proofs.Outcomes.{on_ok}
+use Rattle.store_file.specs.Logs.{trees_of}
+use Rattle.store_file.specs.declared.value.Value.{Value}
+use Rattle.store_file.proofs.Outcomes.{on_ok}
 use Rattle.mst_commands.specs.Reads.{IsValueAt}
 use Rattle.mst_commands.proofs.reading.get.Goals as goal
 

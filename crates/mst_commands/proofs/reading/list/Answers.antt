@@ -3,9 +3,9 @@ use Rattle.std.proofs.KnownBytes.{Appends-trans}
 use Rattle.std.specs.Io.KnownBytes.{Appends}
 use Rattle.std.proofs.lemmas.Result.{err_from_is_err_and}
 use Rattle.key_order.specs.Text.{Text as Key}
-use Rattle.store_table.specs.Reading.{WalksOn}
-use Rattle.store_table.specs.declared.register.Register.{Register}
-use Rattle.store_table.proofs.Calls.{walk_reads, walk_then}
+use Rattle.store_file.specs.Reading.{WalksOn}
+use Rattle.store_file.specs.declared.register.Register.{Register}
+use Rattle.store_file.proofs.Calls.{walk_reads, walk_then}
 use Rattle.mst_commands.specs.Lines.{listed_lines, list_of}
 use Rattle.mst_commands.proofs.LineLemmas.{lines_more, left_more}
 use Rattle.mst_commands.proofs.reading.list.Goals as goal

@@ -1,8 +1,8 @@
 use Rattle.std.proofs.Common.{◌≡◌, ◌-◌, List, length, filter_map}
 use Rattle.std.specs.Io.KnownBytes.{Appends}
 use Rattle.key_order.specs.Text.{Text as Key}
-use Rattle.store_table.specs.Reading.{IsWalked}
-use Rattle.store_table.specs.declared.register.Register.{Register}
+use Rattle.store_file.specs.Reading.{IsWalked}
+use Rattle.store_file.specs.declared.register.Register.{Register}
 use Rattle.mst_commands.specs.Lines.{pair_within, list_of}
 use Rattle.mst_commands.proofs.reading.list.Given as goal
 

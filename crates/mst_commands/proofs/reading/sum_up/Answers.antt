@@ -1,9 +1,9 @@
 use Rattle.std.proofs.Common.{◌++◌, ◌∷◌, [], Option, subst, ◌∙◌}
 use Rattle.std.proofs.lemmas.Result.{err_from_is_err_and}
 use Rattle.key_order.specs.Text.{Text as Key}
-use Rattle.store_table.specs.Reading.{WalksOn}
-use Rattle.store_table.specs.declared.register.Register.{Register}
-use Rattle.store_table.proofs.Calls.{walk_reads, walk_then}
+use Rattle.store_file.specs.Reading.{WalksOn}
+use Rattle.store_file.specs.declared.register.Register.{Register}
+use Rattle.store_file.proofs.Calls.{walk_reads, walk_then}
 use Rattle.mst_commands.proofs.reading.sum_up.Goals as goal
 
 pub returns-in_default-clause-numbers : goal.returns-in_default-clause-numbers

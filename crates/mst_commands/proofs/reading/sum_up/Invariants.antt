@@ -1,7 +1,7 @@
 use Rattle.std.proofs.Common.{List}
 use Rattle.key_order.specs.Text.{Text as Key}
-use Rattle.store_table.specs.Reading.{IsWalked}
-use Rattle.store_table.specs.declared.register.Register.{Register}
+use Rattle.store_file.specs.Reading.{IsWalked}
+use Rattle.store_file.specs.declared.register.Register.{Register}
 use Rattle.mst_commands.specs.Reads.{HaveNumbers}
 use Rattle.mst_commands.proofs.reading.sum_up.Given as goal
 

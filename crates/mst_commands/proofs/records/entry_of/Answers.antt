@@ -1,7 +1,7 @@
 use Rattle.std.proofs.Common.{string_bytes, refl, sym, arith}
 use Rattle.std.proofs.lemmas.Result.{err_from_is_err_and}
 use Rattle.csv.specs.Records.{fields_of}
-use Rattle.store_table.specs.Values.{bytes_of_value}
+use Rattle.store_file.specs.Values.{bytes_of_value}
 use Rattle.mst_commands.proofs.CsvLemmas.{two_fields}
 use Rattle.mst_commands.proofs.MalformedLemmas.{ends-for, no-key, long-text}
 use Rattle.mst_commands.proofs.records.entry_of.Goals as goal

@@ -1,7 +1,7 @@
 use Rattle.std.proofs.Common.{sym}
 use Rattle.std.proofs.lemmas.Result.{err_from_is_err_and}
-use Rattle.store_table.specs.Rows.{IsCompacted}
-use Rattle.store_table.proofs.Calls.{writes_as}
+use Rattle.store_file.specs.Rows.{IsCompacted}
+use Rattle.store_file.proofs.Calls.{writes_as}
 use Rattle.mst_commands.proofs.run.compact_older.Goals as goal
 use Rattle.mst_commands.proofs.run.compact_older.Goals.{in-Some+in_ok-now-in-Some, in-None}
 use Rattle.mst_commands.specs.Carries.{Compacts}

@@ -1,4 +1,4 @@
-use Rattle.store_table.proofs.Calls.{alike, reads_then}
+use Rattle.store_file.proofs.Calls.{alike, reads_then}
 use Rattle.mst_commands.proofs.run.print_check.Goals as goal
 
 pub returns : goal.returns

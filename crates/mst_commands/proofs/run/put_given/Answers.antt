@@ -1,5 +1,5 @@
 use Rattle.std.proofs.Common.{Some}
-use Rattle.store_table.proofs.Calls.{alike, writes_as}
+use Rattle.store_file.proofs.Calls.{alike, writes_as}
 use Rattle.mst_commands.proofs.run.put_given.Goals as goal
 use Rattle.mst_commands.specs.Carries.{Puts, value_of}
 use Rattle.mst_commands.specs.Writes.{WritesBy, WritesIf}

@@ -1,6 +1,6 @@
 use Rattle.std.proofs.Common.{None}
-use Rattle.store_table.specs.Latest.{WritesOver}
-use Rattle.store_table.proofs.Calls.{leaves_as, writes_none}
+use Rattle.store_file.specs.Latest.{WritesOver}
+use Rattle.store_file.proofs.Calls.{leaves_as, writes_none}
 use Rattle.mst_commands.specs.Writes.{WritesBy}
 use Rattle.mst_commands.proofs.writing.del.Goals as goal
 

@@ -1,5 +1,5 @@
 use Rattle.std.proofs.Common.{sym, subst}
-use Rattle.store_table.proofs.Outcomes.{if_ok}
+use Rattle.store_file.proofs.Outcomes.{if_ok}
 use Rattle.mst_commands.specs.Imports.{AreAdded}
 use Rattle.mst_commands.proofs.writing.entries_to_add.Goals as goal
 

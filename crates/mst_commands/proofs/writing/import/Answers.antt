@@ -1,8 +1,8 @@
 use Rattle.std.proofs.Common.{map}
 use Rattle.std.proofs.lemmas.Result.{err_from_is_err_and}
-use Rattle.store_table.specs.Changes.{HasMore}
-use Rattle.store_table.specs.Entries.{entry_row}
-use Rattle.store_table.proofs.Calls.{writes_then}
+use Rattle.store_file.specs.Changes.{HasMore}
+use Rattle.store_file.specs.Entries.{entry_row}
+use Rattle.store_file.proofs.Calls.{writes_then}
 use Rattle.mst_commands.specs.Imports.{Imports}
 use Rattle.mst_commands.proofs.writing.import.Goals as goal
 

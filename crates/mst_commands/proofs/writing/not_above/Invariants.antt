@@ -1,6 +1,6 @@
 use Rattle.std.proofs.Common.{◌≤◌, All, take}
 use Rattle.key_order.specs.Text.{Text as Key}
-use Rattle.store_table.specs.declared.register.Register.{Register}
+use Rattle.store_file.specs.declared.register.Register.{Register}
 use Rattle.mst_commands.proofs.writing.not_above.Given as goal
 
 -- none so far is too late

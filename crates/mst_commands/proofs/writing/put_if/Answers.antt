@@ -1,5 +1,5 @@
 use Rattle.std.proofs.Common.{Some}
-use Rattle.store_table.proofs.Calls.{alike, writes_then}
+use Rattle.store_file.proofs.Calls.{alike, writes_then}
 use Rattle.mst_commands.proofs.writing.put_if.Goals as goal
 use Rattle.mst_commands.specs.Writes.{WritesBy, WritesIf}
 

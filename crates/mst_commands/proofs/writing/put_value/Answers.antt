@@ -1,7 +1,7 @@
 use Rattle.std.proofs.Common.{Some}
 use Rattle.std.proofs.lemmas.Result.{err_from_is_err_and}
-use Rattle.store_table.specs.Latest.{WritesOver}
-use Rattle.store_table.proofs.Calls.{writes_as}
+use Rattle.store_file.specs.Latest.{WritesOver}
+use Rattle.store_file.proofs.Calls.{writes_as}
 use Rattle.mst_commands.specs.Writes.{WritesBy}
 use Rattle.mst_commands.proofs.writing.put_value.Goals as goal
 

@@ -1,4 +1,4 @@
-use Rattle.store_table.proofs.Outcomes.{on_ok}
+use Rattle.store_file.proofs.Outcomes.{on_ok}
 use Rattle.mst_commands.proofs.change.Change.put.Goals as goal
 
 pub returns-clause-waits : goal.returns-clause-waits
