@@ -8,7 +8,7 @@ use mst_files::fault::FileFault;
 use sqlite_std_file::OpenError;
 use sqlite_trees::error::StoreError;
 use std::io::ErrorKind;
-use store_file::{OpenFault, StoreFault};
+use store_file::StoreFault;
 
 /// The key isn't there, or isn't as a write wants it.
 const NO_KEY: u8 = 1;
@@ -44,7 +44,7 @@ fn of_store(fault: &StoreFault) -> u8 {
         StoreFault::Database(error) => of_database(error),
         StoreFault::Malformed => DAMAGED,
         StoreFault::Foreign | StoreFault::Format(_) => FOREIGN,
-        StoreFault::Memory | StoreFault::Time => OTHER,
+        StoreFault::Memory | StoreFault::Exists | StoreFault::Time => OTHER,
     }
 }
 
@@ -80,22 +80,11 @@ fn of_path(error: &OpenError) -> u8 {
     }
 }
 
-/// The status where the file wasn't opened or made as that of a store.
-fn of_opening(fault: OpenFault) -> u8 {
-    match fault {
-        OpenFault::Corrupt => DAMAGED,
-        OpenFault::Foreign | OpenFault::Format => FOREIGN,
-        OpenFault::Full => FULL,
-        OpenFault::Io | OpenFault::Memory | OpenFault::Exists => OTHER,
-    }
-}
-
 /// The status where a command on the file failed, or the file wasn't opened, closed or made.
 fn of_file(fault: &FileFault) -> u8 {
     match fault {
         FileFault::Command(fault) => of_command(fault),
         FileFault::Path(error) => of_path(error),
-        FileFault::Store(fault) => of_opening(*fault),
         FileFault::Mode(_) => FOREIGN,
     }
 }

@@ -4,8 +4,8 @@ use sqlite_std_file::File;
 use sqlite_store::FileStore;
 use sqlite_trees::error::StoreError;
 use std::fs;
-use store_file::Unsure;
 use store_file::log::Log;
+use store_file::{StoreFault, Unsure};
 
 /// The trees of a store's file.
 pub type FileTrees = FileStore<Unsure<File>>;
@@ -31,8 +31,8 @@ impl Closing for Log<FileTrees> {
 
     fn close_all(self) -> Result<(), FileFault> {
         match store_file::close(self.into_trees()) {
-            Ok(()) | Err(StoreError::Full | StoreError::OutOfMemory) => Ok(()),
-            Err(error) => Err(FileFault::from(error)),
+            Ok(()) | Err(StoreFault::Database(StoreError::Full) | StoreFault::Memory) => Ok(()),
+            Err(fault) => Err(FileFault::from(fault)),
         }
     }
 

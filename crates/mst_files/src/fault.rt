@@ -1,21 +1,18 @@
 //! Why the file of a store isn't opened, closed or made.
 use mst_commands::Fault;
 use sqlite_std_file::OpenError;
-use sqlite_trees::error::StoreError;
 use std::alloc::AllocError;
 use std::io::ErrorKind;
 use std::{fmt, io};
-use store_file::{OpenFault, StoreFault};
+use store_file::StoreFault;
 
 /// Why the file of a store isn't opened, closed or made, or why a command on it failed.
 #[derive(Debug, Drop)]
 pub enum FileFault {
-    /// A command on the file failed.
+    /// A command on the file failed, or the file isn't opened, closed or made as that of a store.
     Command(Fault),
     /// The operating system didn't open the file.
     Path(OpenError),
-    /// The file wasn't opened or made.
-    Store(OpenFault),
     /// The file is a store in a mode that isn't read here.
     Mode(&'static str),
 }
@@ -32,24 +29,12 @@ impl From<StoreFault> for FileFault {
     }
 }
 
-impl From<StoreError> for FileFault {
-    fn from(error: StoreError) -> Self {
-        FileFault::Command(Fault::Store(StoreFault::from(error)))
-    }
-}
-
 impl From<OpenError> for FileFault {
     fn from(error: OpenError) -> Self {
         match error {
             OpenError::Busy => FileFault::Command(Fault::InUse),
             other => FileFault::Path(other),
         }
-    }
-}
-
-impl From<OpenFault> for FileFault {
-    fn from(fault: OpenFault) -> Self {
-        FileFault::Store(fault)
     }
 }
 
@@ -72,7 +57,6 @@ impl fmt::Display for FileFault {
             FileFault::Path(OpenError::Io(error)) if error.kind() == ErrorKind::Unsupported =>
                 f.write_str("the file, or its log beside it, isn't a regular file with one name"),
             FileFault::Path(error) => write!(f, "{error}"),
-            FileFault::Store(fault) => write!(f, "{fault}"),
             FileFault::Mode(what) => f.write_str(what),
         }
     }

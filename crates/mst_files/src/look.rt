@@ -3,11 +3,12 @@ ghost use Rattle.std.specs.Prelude.{◌<◌};
 
 use crate::fault::FileFault;
 use sqlite_std_file::OpenError;
+use sqlite_trees::error::StoreError;
 use std::alloc::Global;
 use std::fs::{self, File};
 use std::io::{self, Read};
 use std::os::unix::fs::FileExt;
-use store_file::OpenFault;
+use store_file::StoreFault;
 use store_file::catalog::{ABOUT_SQL, ENTRIES_SQL, FORMER_ABOUT_SQL, FORMER_ENTRIES_SQL};
 
 /// The longest page of a SQLite database.
@@ -33,7 +34,7 @@ enum First {
     /// A store, or what may be a damaged one.
     Store,
     /// A store in an earlier format.
-    Former,
+    Former(i64),
     /// A SQLite database that ends within its first page.
     Cut,
     /// Anything else.
@@ -100,8 +101,8 @@ fn first_of(page: &[u8]) -> First {
         let rows = pair_at(page, 103);
         return match rows {
             2 if are_made_so(page, ENTRIES_SQL, ABOUT_SQL) => First::Store,
-            2 if are_made_so(page, FORMER_ENTRIES_SQL, FORMER_ABOUT_SQL) => First::Former,
-            2 if are_made_so(page, ENTRIES_SQL, FORMER_ABOUT_SQL) => First::Former,
+            2 if are_made_so(page, FORMER_ENTRIES_SQL, FORMER_ABOUT_SQL) => First::Former(1),
+            2 if are_made_so(page, ENTRIES_SQL, FORMER_ABOUT_SQL) => First::Former(2),
             _ => First::Other,
         };
     }
@@ -264,9 +265,9 @@ pub(crate) fn expect_store(rt: &HostRuntime, path: &str) -> Result<(), FileFault
     {
         return Ok(());
     }
-    Err(FileFault::Store(match first {
-        First::Former => OpenFault::Format,
-        First::Cut => OpenFault::Corrupt,
-        _ => OpenFault::Foreign,
+    Err(FileFault::from(match first {
+        First::Former(format) => StoreFault::Format(format),
+        First::Cut => StoreFault::Database(StoreError::Corrupt),
+        _ => StoreFault::Foreign,
     }))
 }

@@ -134,7 +134,7 @@ pub fn open_file(rt: &HostRuntime, path: &str, seconds: u64) -> Result<Log<FileT
     };
     match opened {
         Ok(trees) => noted(rt, Log::over(trees), name.as_str(), had_log),
-        Err(fault) => Err(FileFault::Store(fault)),
+        Err(fault) => Err(FileFault::from(fault)),
     }
 }
 

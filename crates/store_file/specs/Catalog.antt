@@ -1,17 +1,13 @@
--- The two tables of a store's file, and why it isn't opened.
-use Rattle.std.specs.Prelude.{◌≡◌, ◌⊎◌, ℕ, List, [], ◌∷◌, codes}
+-- The two tables of a store's file, and when it has others.
+use Rattle.std.specs.Prelude.{◌≡◌, ◌⊎◌, ℕ, ℤ, pos, List, [], ◌∷◌, codes}
 use Rattle.sqlite_value.specs.declared.value.Value.TheVariants.{Text}
 use Rattle.sqlite_value.specs.Order.{Row, column}
 use Rattle.sqlite_value.specs.Keys.{plain}
 use Rattle.sqlite_trees.specs.declared.store.Shape.TheVariants.{Table, Index}
 use Rattle.sqlite_store.specs.declared.catalog.Wanted.{Wanted}
-use Rattle.sqlite_store.specs.declared.error.OpenError.{OpenError}
-use Rattle.sqlite_store.specs.declared.error.OpenError.TheVariants as refusal
-use Rattle.sqlite_wal.specs.declared.error.Error.{Error}
-use Rattle.sqlite_wal.specs.declared.error.Error.TheVariants as probe
 use Rattle.store_file.specs.declared.catalog.TheConstants.{ENTRIES_SQL, ABOUT_SQL, FORMER_ENTRIES_SQL, FORMER_ABOUT_SQL}
-use Rattle.store_file.specs.declared.fault.OpenFault.{OpenFault}
-use Rattle.store_file.specs.declared.fault.OpenFault.TheVariants.{Io, Full, Memory, Foreign, Format, Corrupt}
+use Rattle.store_file.specs.declared.fault.StoreFault.{StoreFault}
+use Rattle.store_file.specs.declared.fault.StoreFault.TheVariants.{Foreign, Format}
 
 -- the table of entries, in the order of all its columns, and the table that says whose store it is
 abbrev pub laid_out : List Wanted
@@ -33,24 +29,13 @@ Lists entries about (first ∷ []) = ⊥
 Lists entries about (first ∷ second ∷ []) = IsTableRow (codes "entry") entries first × IsTableRow (codes "about") about second
 Lists entries about (first ∷ second ∷ other ∷ more) = ⊥
 
--- they are those of a store in format 1, or in format 2
-abbrev pub AreFormer : List Row → Type 0
-AreFormer rows = Lists FORMER_ENTRIES_SQL.now FORMER_ABOUT_SQL.now rows ⊎ Lists ENTRIES_SQL.now FORMER_ABOUT_SQL.now rows
+-- they are those of a store in this earlier format, 1 or 2
+abbrev pub AreOfFormat : ℤ → List Row → Type 0
+AreOfFormat format rows =
+    ((format ≡ pos 1) × Lists FORMER_ENTRIES_SQL.now FORMER_ABOUT_SQL.now rows) ⊎ ((format ≡ pos 2) × Lists ENTRIES_SQL.now FORMER_ABOUT_SQL.now rows)
 
 -- they aren't those of a store, and are told as one in an earlier format or as something else
-abbrev pub RefusesTables : List Row → OpenFault → Type 0
-RefusesTables rows Format = AreFormer rows
-RefusesTables rows Foreign = ¬ Lists ENTRIES_SQL.now ABOUT_SQL.now rows × ¬ AreFormer rows
+abbrev pub RefusesTables : List Row → StoreFault → Type 0
+RefusesTables rows (Format format) = AreOfFormat format rows
+RefusesTables rows Foreign = ¬ Lists ENTRIES_SQL.now ABOUT_SQL.now rows × ((format : ℤ) → ¬ AreOfFormat format rows)
 RefusesTables rows _ = ⊥
-
-abbrev pub open_fault_of : OpenError → OpenFault
-open_fault_of refusal.OutOfMemory = Memory
-open_fault_of refusal.Io = Io
-open_fault_of refusal.Full = Full
-open_fault_of refusal.Refused = Corrupt
-
-abbrev pub fault_of_probe : Error → OpenFault
-fault_of_probe probe.OutOfMemory = Memory
-fault_of_probe (probe.Io error) = Io
-fault_of_probe probe.Full = Full
-fault_of_probe _ = Corrupt

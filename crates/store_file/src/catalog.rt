@@ -1,9 +1,9 @@
 //! The two tables of a store's file.
-ghost use Rattle.std.specs.Prelude.{◌≡◌, ◌↔◌, IsTrue, MatchResult, map};
+ghost use Rattle.std.specs.Prelude.{◌≡◌, ◌↔◌, ℤ, IfNone, IfSome, IsTrue, MatchResult, map};
 ghost use Rattle.sqlite_store.specs.Catalog.{wanted_of};
-ghost use Rattle.store_file.specs.Catalog.{AreFormer, IsTableRow, Lists, RefusesTables, laid_out};
+ghost use Rattle.store_file.specs.Catalog.{AreOfFormat, IsTableRow, Lists, RefusesTables, laid_out};
 
-use crate::fault::OpenFault;
+use crate::fault::StoreFault;
 use sqlite_trees::schema::Object;
 use sqlite_trees::store::Shape;
 use sqlite_value::keys::Order;
@@ -78,26 +78,33 @@ fn lists(rows: &[Row], entries: &str, about: &str) -> bool
     }
 }
 
-/// Whether they are those of a store in an earlier format.
-fn are_former(rows: &[Row]) -> bool
-    ensures { IsTrue result ↔ AreFormer rows.now }
+/// The earlier format of a store whose rows they are.
+fn former_format(rows: &[Row]) -> Option<i64>
+    ensures told { IfSome result (λ format. AreOfFormat format rows.now) }
+    ensures other { IfNone result ((format : ℤ) → ¬ AreOfFormat format rows.now) }
 {
-    lists(rows, FORMER_ENTRIES_SQL, FORMER_ABOUT_SQL) || lists(rows, ENTRIES_SQL, FORMER_ABOUT_SQL)
+    if lists(rows, FORMER_ENTRIES_SQL, FORMER_ABOUT_SQL) {
+        return Some(1);
+    }
+    if lists(rows, ENTRIES_SQL, FORMER_ABOUT_SQL) {
+        return Some(2);
+    }
+    None
 }
 
 /// Refuses the rows of `sqlite_schema` that aren't those of a store.
 ///
 /// # Errors
 ///
-/// [`OpenFault::Format`] for those of a store in an earlier format, and [`OpenFault::Foreign`] for others.
-pub fn expect_tables(rows: &[Row]) -> Result<(), OpenFault>
+/// [`StoreFault::Format`] for those of a store in an earlier format, and [`StoreFault::Foreign`] for others.
+pub fn expect_tables(rows: &[Row]) -> Result<(), StoreFault>
     ensures { MatchResult result (λ _. Lists ENTRIES_SQL.now ABOUT_SQL.now rows.now) (RefusesTables rows.now) }
 {
     if lists(rows, ENTRIES_SQL, ABOUT_SQL) {
         return Ok(());
     }
-    if are_former(rows) {
-        return Err(OpenFault::Format);
+    match former_format(rows) {
+        Some(format) => Err(StoreFault::Format(format)),
+        None => Err(StoreFault::Foreign),
     }
-    Err(OpenFault::Foreign)
 }

@@ -1,15 +1,17 @@
 //! The file of a store is made, opened and closed.
 ghost use Rattle.std.specs.Prelude.{◌≡◌, ◌≢◌, ◌⊎◌, [], IsTrue, IfOk, OnOk};
 ghost use Rattle.sqlite_wal.specs.PageSize.{bytes_of};
-ghost use Rattle.sqlite_wal.specs.Reads.{AreClean, OnlyReads};
+ghost use Rattle.sqlite_wal.specs.Reads.{AreClean, OnlyReads, tally_of_files};
 ghost use Rattle.sqlite_trees.specs.Tree.{Trees};
 ghost use Rattle.sqlite_store.specs.FileStore.{view};
+ghost use Rattle.sqlite_store.specs.Report.{named as name_of};
 ghost use Rattle.sqlite_store.specs.Unopened.{state_of, files_of, wanted_by};
-ghost use Rattle.store_file.specs.Catalog.{open_fault_of, laid_out};
+ghost use Rattle.store_file.specs.Catalog.{laid_out};
+ghost use Rattle.store_file.specs.Faults.{open_fault_of};
 ghost use Rattle.store_file.specs.Files.{HasStoreTables, HoldsStore, HoldsTrees, HoldsNothing, IsLaidOut, KeepStore, LeavesStore, image_of};
 
 use crate::catalog::{expect_tables, objects};
-use crate::fault::{OpenFault, ReopenFault, fault_of, fault_of_probe};
+use crate::fault::{StoreFault, open_fault_of, probe_fault_of};
 use sqlite_disk::{Disk, Files, Tally, digest_of};
 use sqlite_pager::{Options, Pager};
 use sqlite_store::{FileStore, OpenError, Unopened, name_fault};
@@ -30,23 +32,23 @@ fn unopened<D: Disk + Drop>(
     alloc: Global,
     files: Files<D>,
     size: PageSize,
-) -> Result<Unopened<D>, OpenFault>
+) -> Result<Unopened<D>, StoreFault>
     ensures files { IfOk result (λ it. files_of it ≡ (files.log, files.db)) }
     ensures size { IfOk result (λ it. (state_of it).page_size ≡ bytes_of size) }
     ensures schema { IfOk result (λ it. wanted_by it ≡ laid_out) }
 {
     let options = Options::new(digest_of(files.log.key(), b"salts"));
     let Ok(pager) = Pager::new(alloc, files, size, options) else {
-        return Err(OpenFault::Memory);
+        return Err(StoreFault::Memory);
     };
     match Unopened::new(alloc, pager, &objects()) {
         Ok(fresh) => Ok(fresh),
-        Err(_) => Err(OpenFault::Memory),
+        Err(_) => Err(StoreFault::Memory),
     }
 }
 
 /// The page size of a database, if the files hold one.
-fn find_size<D: Disk>(alloc: Global, files: &mut Files<D>) -> Result<PageSize, OpenFault>
+fn find_size<D: Disk>(alloc: Global, files: &mut Files<D>) -> Result<PageSize, StoreFault>
     requires log { IsTrue (D.Disk.is_usable files.old.log) }
     requires db { IsTrue (D.Disk.is_usable files.old.db) }
     ensures named { IfOk result (λ size. AreClean D.Disk files.new.log files.new.db → (held : HoldsStore (image_of D.Disk files.old)) → held.holds.size ≡ bytes_of size) }
@@ -54,31 +56,27 @@ fn find_size<D: Disk>(alloc: Global, files: &mut Files<D>) -> Result<PageSize, O
     ensures file { OnlyReads D.Disk files.old.db files.new.db }
 {
     let Ok(found) = probe_page_size(files) else {
-        return Err(OpenFault::Io);
+        return Err(StoreFault::Database(StoreError::Io));
     };
     let Some(size) = found else {
-        return Err(OpenFault::Foreign);
+        return Err(StoreFault::Foreign);
     };
     match probe_first_page(alloc, files, size) {
         Ok(head) if head.0 == FIRST => Ok(size),
-        Ok(_) => Err(OpenFault::Foreign),
-        Err(error) => Err(fault_of_probe(error)),
+        Ok(_) => Err(StoreFault::Foreign),
+        Err(error) => Err(probe_fault_of(error)),
     }
 }
 
 /// What a refusal means, where a failure of the disk is told by what the files met since this tally.
-fn named<D: Disk>(error: OpenError, before: Tally, left: &Unopened<D>) -> OpenFault
+fn named<D: Disk>(error: OpenError, before: Tally, left: &Unopened<D>) -> StoreFault
     ensures told { error ≢ OpenError.Io → result ≡ open_fault_of error }
-    ensures disk { error ≡ OpenError.Io → (result ≡ OpenFault.Io) ⊎ ((result ≡ OpenFault.Corrupt) ⊎ (result ≡ OpenFault.Full)) }
+    ensures disk { error ≡ OpenError.Io → result ≡ StoreFault.Database (name_of before (tally_of_files D.Disk (files_of left.now))) }
 {
     if error != OpenError::Io {
-        return fault_of(error);
+        return open_fault_of(error);
     }
-    match name_fault(before, left.tally()) {
-        StoreError::Corrupt => OpenFault::Corrupt,
-        StoreError::Full => OpenFault::Full,
-        _ => OpenFault::Io,
-    }
+    StoreFault::Database(name_fault(before, left.tally()))
 }
 
 /// Opens the file of a store, and reads of it the header, the list of free pages and the list of tables.
@@ -91,8 +89,9 @@ fn named<D: Disk>(error: OpenError, before: Tally, left: &Unopened<D>) -> OpenFa
 ///
 /// # Errors
 ///
-/// [`OpenFault`]: what the files are instead, a failure of the disk, or out of memory. By the code, and by no clause, nothing is written.
-pub fn open<D: Disk + Drop>(alloc: Global, files: Files<D>) -> Result<FileStore<D>, OpenFault>
+/// [`StoreFault::Foreign`] and [`StoreFault::Format`]: what the files are instead. [`StoreFault::Database`]: the disk failed or has no room, or the
+/// file is damaged. [`StoreFault::Memory`]. By the code, and by no clause, nothing is written.
+pub fn open<D: Disk + Drop>(alloc: Global, files: Files<D>) -> Result<FileStore<D>, StoreFault>
     requires log { IsTrue (D.Disk.is_usable files.log) }
     requires db { IsTrue (D.Disk.is_usable files.db) }
     requires sound { AreClean D.Disk files.log files.db → ∥ HoldsStore (image_of D.Disk files) ∥₁ }
@@ -124,11 +123,11 @@ pub fn open<D: Disk + Drop>(alloc: Global, files: Files<D>) -> Result<FileStore<
 ///
 /// # Errors
 ///
-/// [`OpenFault`], but for [`OpenFault::Format`].
+/// As of [`open`], but for [`StoreFault::Format`].
 pub fn open_trusted<D: Disk + Drop>(
     alloc: Global,
     files: Files<D>,
-) -> Result<FileStore<D>, OpenFault>
+) -> Result<FileStore<D>, StoreFault>
     requires log { IsTrue (D.Disk.is_usable files.log) }
     requires db { IsTrue (D.Disk.is_usable files.db) }
     requires sound { AreClean D.Disk files.log files.db → ∥ HoldsStore (image_of D.Disk files) ∥₁ }
@@ -154,9 +153,12 @@ pub fn open_trusted<D: Disk + Drop>(
 ///
 /// # Errors
 ///
-/// [`OpenFault::Corrupt`] unless each page is in one of the two tables or free, in one place, with rows that ascend; and those of [`open`]. By the
-/// code, and by no clause, nothing is written.
-pub fn open_whole<D: Disk + Drop>(alloc: Global, files: Files<D>) -> Result<FileStore<D>, OpenFault>
+/// [`StoreError::Corrupt`] of the database, unless each page is in one of the two tables or free, in one place, with rows that ascend; and those of
+/// [`open`]. By the code, and by no clause, nothing is written.
+pub fn open_whole<D: Disk + Drop>(
+    alloc: Global,
+    files: Files<D>,
+) -> Result<FileStore<D>, StoreFault>
     requires log { IsTrue (D.Disk.is_usable files.log) }
     requires db { IsTrue (D.Disk.is_usable files.db) }
     ensures honest { IfOk result (λ it. IsTrue (view it).is_clean → AreClean D.Disk files.log files.db) }
@@ -182,8 +184,8 @@ pub fn open_whole<D: Disk + Drop>(alloc: Global, files: Files<D>) -> Result<File
 ///
 /// # Errors
 ///
-/// [`OpenFault::Exists`] where they hold a database, a failure of the disk, or out of memory.
-pub fn create<D: Disk + Drop>(alloc: Global, files: Files<D>) -> Result<FileStore<D>, OpenFault>
+/// [`StoreFault::Exists`] where they hold a database, a failure of the disk, or out of memory.
+pub fn create<D: Disk + Drop>(alloc: Global, files: Files<D>) -> Result<FileStore<D>, StoreFault>
     requires log { IsTrue (D.Disk.is_usable files.log) }
     requires db { IsTrue (D.Disk.is_usable files.db) }
     ensures honest { IfOk result (λ it. IsTrue (view it).is_clean → AreClean D.Disk files.log files.db) }
@@ -197,7 +199,7 @@ pub fn create<D: Disk + Drop>(alloc: Global, files: Files<D>) -> Result<FileStor
     let before = fresh.tally();
     match fresh.create() {
         Ok(store) => Ok(store),
-        Err((OpenError::Refused, _)) => Err(OpenFault::Exists),
+        Err((OpenError::Refused, _)) => Err(StoreFault::Exists),
         Err((error, left)) => Err(named(error, before, &left)),
     }
 }
@@ -237,7 +239,7 @@ pub fn is_store<D: Disk>(store: &FileStore<D>) -> Result<bool, AllocError>
 /// # Errors
 ///
 /// As those of [`close_files`], but for that of a database that isn't a store.
-pub fn close_any<D: Disk + Drop>(store: FileStore<D>) -> Result<(Files<D>, bool), StoreError>
+pub fn close_any<D: Disk + Drop>(store: FileStore<D>) -> Result<(Files<D>, bool), StoreFault>
     ensures usable { IfOk result (λ closed. IsTrue (D.Disk.is_usable closed.0.log) × IsTrue (D.Disk.is_usable closed.0.db)) }
     ensures copied { IfOk result (λ closed. IsTrue closed.1 → KeepStore D.Disk (view store).committed closed.0) }
     ensures honest { IfOk result (λ closed. AreClean D.Disk closed.0.log closed.0.db → IsTrue (view store).is_clean × IsTrue (view store).is_open) }
@@ -256,10 +258,9 @@ pub fn close_any<D: Disk + Drop>(store: FileStore<D>) -> Result<(Files<D>, bool)
 ///
 /// # Errors
 ///
-/// [`StoreError::Full`] and [`StoreError::Io`] where the log can't be copied, [`StoreError::OutOfMemory`], [`StoreError::Corrupt`], and
-/// [`StoreError::Broken`] where an earlier call failed or the database has other tables. By the code, and by no clause, what was committed is in
-/// the files then too.
-pub fn close_files<D: Disk + Drop>(store: FileStore<D>) -> Result<Files<D>, StoreError>
+/// [`StoreFault::Database`] where the log can't be copied, the file is damaged or an earlier call failed, [`StoreFault::Memory`], and
+/// [`StoreFault::Foreign`] where the database has other tables. By the code, and by no clause, what was committed is in the files then too.
+pub fn close_files<D: Disk + Drop>(store: FileStore<D>) -> Result<Files<D>, StoreFault>
     ensures usable { IfOk result (λ files. IsTrue (D.Disk.is_usable files.log) × IsTrue (D.Disk.is_usable files.db)) }
     ensures copied { IfOk result (KeepStore D.Disk (view store).committed) }
     ensures honest { IfOk result (λ files. AreClean D.Disk files.log files.db → IsTrue (view store).is_clean × IsTrue (view store).is_open) }
@@ -268,7 +269,7 @@ pub fn close_files<D: Disk + Drop>(store: FileStore<D>) -> Result<Files<D>, Stor
     if is_store {
         Ok(files)
     } else {
-        Err(StoreError::Broken)
+        Err(StoreFault::Foreign)
     }
 }
 
@@ -277,7 +278,7 @@ pub fn close_files<D: Disk + Drop>(store: FileStore<D>) -> Result<Files<D>, Stor
 /// # Errors
 ///
 /// As those of `close_files`.
-pub fn close<D: Disk + Drop>(store: FileStore<D>) -> Result<(), StoreError>
+pub fn close<D: Disk + Drop>(store: FileStore<D>) -> Result<(), StoreFault>
     // There were files then, which keep what was committed.
     ensures copied { OnOk result ((files : _) × KeepStore D.Disk (view store).committed files) }
 {
@@ -295,15 +296,16 @@ pub fn close<D: Disk + Drop>(store: FileStore<D>) -> Result<(), StoreError>
 ///
 /// # Errors
 ///
-/// [`ReopenFault::Close`] and [`ReopenFault::Open`], with the errors of `close_files` and `open_trusted`.
+/// As those of `close_files` and of `open_trusted`.
 pub fn reopen<D: Disk + Drop>(
     alloc: Global,
     store: FileStore<D>,
-) -> Result<FileStore<D>, ReopenFault>
+) -> Result<FileStore<D>, StoreFault>
     ensures same { IfOk result (λ again. IsTrue (view again).is_clean → (view again).committed ≡ (view store).committed) }
     ensures laid_out { IfOk result (λ again. IsTrue (view again).is_clean → IsLaidOut (view again)) }
     ensures honest { IfOk result (λ again. IsTrue (view again).is_clean → IsTrue (view store).is_clean × IsTrue (view store).is_open) }
 {
     let files = close_files(store)?;
-    Ok(open_trusted(alloc, files)?)
+    let again = open_trusted(alloc, files)?;
+    Ok(again)
 }

@@ -19,7 +19,7 @@ pub mod unsure;
 pub mod value;
 mod walk;
 
-pub use fault::{OpenFault, ReopenFault, StoreFault};
+pub use fault::StoreFault;
 pub use file::{close, close_files, create, is_store, open, open_trusted, open_whole, reopen};
 pub use register::Register;
 pub use unsure::Unsure;

@@ -23,7 +23,7 @@ use store_file::catalog::{
 };
 use store_file::file::close_any;
 use store_file::{
-    OpenFault, Unsure, close, close_files, create, is_store, open, open_trusted, reopen,
+    StoreFault, Unsure, close, close_files, create, is_store, open, open_trusted, reopen,
 };
 
 type Pair = Files<Unsure<Memory>>;
@@ -243,16 +243,16 @@ fn opens_again_what_it_made(rt: HostRuntime) -> Result<(), Fail> {
 #[test]
 fn opens_no_other_file(rt: HostRuntime) -> Result<(), Fail> {
     let alloc = rt.alloc();
-    assert_eq!(rt; open(alloc, blank(alloc)).err(), Some(OpenFault::Foreign));
+    assert_eq!(rt; open(alloc, blank(alloc)).err(), Some(StoreFault::Foreign));
     let mut text = blank(alloc);
     text.db
         .write_at(0, b"key,value\napple,3\nbanana,5\ncherry,1\n")?;
-    assert_eq!(rt; open(alloc, text).err(), Some(OpenFault::Foreign));
+    assert_eq!(rt; open(alloc, text).err(), Some(StoreFault::Foreign));
     let other = database(alloc, "CREATE TABLE entry (a)", ABOUT_SQL)?;
-    assert_eq!(rt; open(alloc, other).err(), Some(OpenFault::Foreign));
-    for entries in [FORMER_ENTRIES_SQL, ENTRIES_SQL] {
+    assert_eq!(rt; open(alloc, other).err(), Some(StoreFault::Foreign));
+    for (format, entries) in [(1, FORMER_ENTRIES_SQL), (2, ENTRIES_SQL)] {
         let former = database(alloc, entries, FORMER_ABOUT_SQL)?;
-        assert_eq!(rt; open(alloc, former).err(), Some(OpenFault::Format));
+        assert_eq!(rt; open(alloc, former).err(), Some(StoreFault::Format(format)));
     }
     Ok(())
 }
@@ -261,7 +261,7 @@ fn opens_no_other_file(rt: HostRuntime) -> Result<(), Fail> {
 fn is_no_store(alloc: Global, entries: &str, notes: &str) -> Result<bool, Fail> {
     let files = close_files(open_database(alloc, entries, notes)?).err();
     let counted = close(open_database(alloc, entries, notes)?).err();
-    Ok(files == Some(StoreError::Broken) && counted == Some(StoreError::Broken))
+    Ok(files == Some(StoreFault::Foreign) && counted == Some(StoreFault::Foreign))
 }
 
 #[test]
@@ -278,20 +278,23 @@ fn opens_no_damaged_file(rt: HostRuntime) -> Result<(), Fail> {
     let mut files = made(rt.alloc())?;
     // The text encoding is UTF-8.
     files.db.write_at(56, &[0, 0, 0, 9])?;
-    assert_eq!(rt; open(rt.alloc(), files).err(), Some(OpenFault::Corrupt));
+    assert_eq!(rt;
+        open(rt.alloc(), files).err(),
+        Some(StoreFault::Database(StoreError::Corrupt))
+    );
     Ok(())
 }
 
 #[test]
 fn makes_no_store_over_another(rt: HostRuntime) -> Result<(), Fail> {
     let files = made(rt.alloc())?;
-    assert_eq!(rt; create(rt.alloc(), files).err(), Some(OpenFault::Exists));
+    assert_eq!(rt; create(rt.alloc(), files).err(), Some(StoreFault::Exists));
     Ok(())
 }
 
 #[test]
 fn says_why(rt: HostRuntime) -> Result<(), Fail> {
-    let text = format!(in rt.alloc(); "{}", OpenFault::Foreign)?;
+    let text = format!(in rt.alloc(); "{}", StoreFault::Foreign)?;
     assert_eq!(rt; text.as_str(), "the file isn't a store");
     Ok(())
 }

@@ -8,4 +8,4 @@ open_trusted-requires-clause-sound g c = λ clean. ∥∥₁_map (c.in_ok-files.
 
 -- and shows
 pub returns-clause-same : goal.returns-clause-same
-returns-clause-same g c = λ clean. c.in_ok-open_trusted.ensures.found clean (view c.args.store).committed (c.in_ok-files.ensures.copied.now (c.in_ok-open_trusted.ensures.honest clean))
+returns-clause-same g c = λ clean. c.in_ok-again.ensures.found clean (view c.args.store).committed (c.in_ok-files.ensures.copied.now (c.in_ok-again.ensures.honest clean))
