@@ -1,6 +1,7 @@
 //! The rows of a store's file as a replica in memory, by which copies of the file sync over any pair of streams.
 #![tactic(auto)]
 
+pub mod counting;
 pub mod fetch_fault;
 pub mod fetching;
 pub mod framing;

@@ -1,5 +1,6 @@
 //! The commands that speak with a peer, over rows in memory: no file is open meanwhile.
 use crate::fault::Failure;
+use merkle_store::counting::Counting;
 use merkle_store::fetch_fault::{FetchFault, Untaken};
 use merkle_store::fetching::{Fetched, Terms, fetch};
 use merkle_store::framing::{MOST_BYTES, Unwatched, Watch, send};
@@ -79,12 +80,18 @@ fn peer_of(rt: &HostRuntime) -> Result<String, AllocError> {
     }
 }
 
-/// Says on standard error whom this side served since then, in milliseconds since 1970, and what that took.
-pub fn tell_served(rt: &HostRuntime, traffic: &Traffic, begun: u64) -> Result<(), Failure> {
+/// Says on standard error whom this side served since then, in milliseconds since 1970, how many entries it told, and what that took.
+pub fn tell_served(
+    rt: &HostRuntime,
+    traffic: &Traffic,
+    entries: u64,
+    begun: u64,
+) -> Result<(), Failure> {
     let millis = now(rt)?.saturating_sub(begun);
     let peer = peer_of(rt)?;
     eprintln!(rt;
-        "mst: served {peer}: {} {} in {millis} ms; {} bytes sent, {} received",
+        "mst: served {peer}: {entries} {} in {} {} and {millis} ms; {} bytes sent, {} received",
+        words_for(entries as usize, "entry", "entries"),
         traffic.messages,
         words_for(traffic.messages, "round", "rounds"),
         traffic.sent,
@@ -107,7 +114,7 @@ pub fn bytes_read(limits: &Limits) -> u64 {
 /// Answers a peer until it is this side's turn to ask, or the peer's messages end.
 pub fn answer<R: Read>(
     rt: &HostRuntime,
-    replica: &mut EntryReplica,
+    replica: &mut Counting<EntryReplica>,
     from: &mut Take<R>,
 ) -> Result<Served, Failure> {
     let served = serve(

@@ -6,6 +6,7 @@ ghost use Rattle.merkle_store.specs.Kept.{AreRowsOf};
 
 use crate::fault::Failure;
 use crate::peers;
+use merkle_store::counting::Counting;
 use merkle_store::fetch_fault::FetchFault;
 use merkle_store::fetching::Fetched;
 use merkle_store::rows::{EntryReplica, read_replica};
@@ -103,11 +104,11 @@ fn is_heard(failure: &Failure) -> bool {
 /// Gives the peer the turn to ask, and answers it until it gives the turn back.
 fn answer_in_turn<R: Read>(
     rt: &HostRuntime,
-    replica: &mut EntryReplica,
+    replica: EntryReplica,
     from: &mut Take<R>,
 ) -> Result<(), Failure> {
     peers::pass_turn(rt)?;
-    if !peers::answer(rt, replica, from)?.is_turn {
+    if !peers::answer(rt, &mut Counting::new(rt.alloc(), replica), from)?.is_turn {
         return Err(Failure::OneWay);
     }
     Ok(())
@@ -134,7 +135,7 @@ fn join_and_answer<R: Read>(
         Err(failure) if is_heard(&failure) => Err(failure),
         Err(failure) => return Err(failure),
     };
-    let answered = answer_in_turn(rt, &mut replica, from);
+    let answered = answer_in_turn(rt, replica, from);
     joined?;
     answered
 }
@@ -167,14 +168,16 @@ pub fn serve(
 ) -> Result<(), Failure> {
     let begun = now(rt)?;
     let (note, replica) = rows_on(rt, open_file(rt, path, seconds)?)?;
-    let mut replica = replica;
+    let mut side = Counting::new(rt.alloc(), replica);
     let mut from = rt.stdin().take(peers::bytes_read(limits));
-    let served = peers::answer(rt, &mut replica, &mut from)?;
+    let served = peers::answer(rt, &mut side, &mut from)?;
+    let (replica, entries) = side.into_parts();
     // (the peer was served, though nobody may read what that took)
-    let _ = peers::tell_served(rt, &served.traffic, begun);
+    let _ = peers::tell_served(rt, &served.traffic, entries, begun);
     if !(served.is_turn && both) {
         return Ok(());
     }
+    let mut replica = replica;
     let fetched = peers::ask(rt, &mut replica, limits, &mut from);
     // (what was fetched is added though the peer may have gone)
     let _ = peers::pass_turn(rt);

@@ -1,6 +1,6 @@
 //! Commands on one file, a line each.
 use crate::fault::Failure;
-use crate::tasks::{print_end, run_open};
+use crate::tasks::{name_store, print_end, run_named};
 use mst_commands::Input;
 use mst_commands::change::Change;
 use mst_commands::clock::now;
@@ -105,7 +105,7 @@ fn run_waiting<S: Store>(
 fn run_verb<S: Store>(
     rt: &HostRuntime,
     log: &mut Log<S>,
-    note: &Note,
+    note: &mut Note,
     change: &mut Option<Change>,
     at: At,
     verb: Verb,
@@ -122,7 +122,7 @@ fn run_verb<S: Store>(
     if let Some(change) = change {
         return run_waiting(rt, log, change, at, command);
     }
-    match run_open(rt, log, note, command, Input::Nothing) {
+    match run_named(rt, log, note, command, Input::Nothing) {
         Ok(()) => {
             print_end(rt, command, None)?;
             Ok(true)
@@ -162,13 +162,16 @@ fn abort(rt: &HostRuntime, change: &mut Option<Change>, at: At) -> Result<bool, 
 fn commit<S: Store>(
     rt: &HostRuntime,
     log: &mut Log<S>,
-    note: &Note,
+    note: &mut Note,
     change: &mut Option<Change>,
     at: At,
 ) -> Result<bool, Failure> {
     let Some(change) = change.take() else {
         return at.refuse(rt, &NO_CHANGE);
     };
+    if let Err(failure) = name_store(rt, log, note) {
+        return at.refuse(rt, &failure);
+    }
     match change.land(rt.alloc(), log, note.writer.as_str(), now(rt)?) {
         Ok(true) => Ok(true),
         Ok(false) => at.refuse(rt, &"a line of the change failed: nothing of it is written"),
@@ -180,7 +183,7 @@ fn commit<S: Store>(
 fn run_of_change<S: Store>(
     rt: &HostRuntime,
     log: &mut Log<S>,
-    note: &Note,
+    note: &mut Note,
     change: &mut Option<Change>,
     at: At,
     name: &str,
@@ -197,7 +200,7 @@ fn run_of_change<S: Store>(
 fn run_line<S: Store>(
     rt: &HostRuntime,
     log: &mut Log<S>,
-    note: &Note,
+    note: &mut Note,
     change: &mut Option<Change>,
     at: At,
     line: &str,
@@ -233,7 +236,7 @@ fn run_line<S: Store>(
 fn run_read<S: Store>(
     rt: &HostRuntime,
     log: &mut Log<S>,
-    note: &Note,
+    note: &mut Note,
     change: &mut Option<Change>,
     at: At,
     read: io::Result<String>,
@@ -262,7 +265,7 @@ fn note_failure(change: &mut Option<Change>) {
 fn run_lines<S: Store>(
     rt: &HostRuntime,
     log: &mut Log<S>,
-    note: &Note,
+    note: &mut Note,
     is_answered: bool,
 ) -> Result<(), Failure> {
     let mut failed = 0u64;
@@ -297,8 +300,8 @@ fn run_lent<S: Store>(
     log: &mut Log<S>,
     is_answered: bool,
 ) -> Result<(), Failure> {
-    let note = recognise(rt.alloc(), log)?;
-    run_lines(rt, log, &note, is_answered)
+    let mut note = recognise(rt.alloc(), log)?;
+    run_lines(rt, log, &mut note, is_answered)
 }
 
 /// The same of a log that is open, and closes its file.

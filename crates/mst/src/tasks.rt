@@ -1,5 +1,5 @@
 //! A command on the file of a store.
-ghost use Rattle.std.specs.Prelude.{string_bytes};
+ghost use Rattle.std.specs.Prelude.{◌≡◌, ◌≢◌, [], string_bytes};
 ghost use Rattle.store_file.specs.Entries.{HoldsEntries};
 ghost use Rattle.mst_commands.specs.Carries.{Carries};
 ghost use Rattle.mst_words.specs.declared.command.StoreCommand.TheVariants.{Table};
@@ -12,6 +12,7 @@ use mst_commands::input::read_input;
 use mst_commands::{Input, run};
 use mst_files::closing::{Closing, close_behind};
 use mst_files::fault::FileFault;
+use mst_files::making::random_name;
 use mst_files::opening::{expect_file, open_file, open_whole};
 use mst_words::hash_key::number_of;
 use mst_words::{StoreCommand, TableCommand};
@@ -20,6 +21,7 @@ use sqlite_trees::store::Store as Trees;
 use std::fs;
 use store_file::format::{Note, recognise};
 use store_file::log::Log;
+use store_file::naming::name_writer;
 use store_file::table::{Entries, read_log};
 
 /// The root hash of what the file holds.
@@ -61,6 +63,34 @@ pub fn print_end(
     Ok(())
 }
 
+/// Whether a command writes by the store's name.
+fn writes_by_name(command: StoreCommand<'_>) -> bool {
+    matches!(
+        command,
+        StoreCommand::Table(
+            TableCommand::Put { .. }
+                | TableCommand::Del { .. }
+                | TableCommand::Import { is_log: false, .. },
+        )
+    )
+}
+
+/// Draws a name for a store that has none, as one that `backup` made.
+pub fn name_store<S: Trees>(
+    rt: &HostRuntime,
+    log: &mut Log<S>,
+    note: &mut Note,
+) -> Result<(), Failure>
+    ensures kept { string_bytes note.old.writer ≢ [] → (log.new ≡ log.old) × (note.new ≡ note.old) }
+{
+    if note.writer.is_empty() {
+        let name = random_name(rt)?;
+        name_writer(rt.alloc(), log, name.as_str())?;
+        note.writer = name;
+    }
+    Ok(())
+}
+
 /// Runs a command on the table of an open store. A status gets the root hash too.
 fn run_on_table<S: Trees>(
     rt: &HostRuntime,
@@ -81,7 +111,7 @@ fn run_on_table<S: Trees>(
 
 /// Runs a command on an open log of a store that notes this of itself, with what was read from standard input before. What ends a status isn't
 /// printed yet (`print_end`).
-pub fn run_open<S: Trees>(
+fn run_open<S: Trees>(
     rt: &HostRuntime,
     log: &mut Log<S>,
     note: &Note,
@@ -97,6 +127,22 @@ pub fn run_open<S: Trees>(
         StoreCommand::HashKey => println!(rt; "{:032x}", number_of(&note.hash_key))?,
     }
     Ok(())
+}
+
+/// Runs a command on an open log, by a name that is drawn first where the command writes and the store has none.
+pub fn run_named<S: Trees>(
+    rt: &HostRuntime,
+    log: &mut Log<S>,
+    note: &mut Note,
+    command: StoreCommand<'_>,
+    input: Input,
+) -> Result<(), Failure>
+    ensures kept { string_bytes note.old.writer ≢ [] → note.new ≡ note.old }
+{
+    if writes_by_name(command) {
+        name_store(rt, log, note)?;
+    }
+    run_open(rt, log, note, command, input)
 }
 
 /// What a store notes of itself, and all its entries.
@@ -131,8 +177,8 @@ fn run_lent<S: Trees>(
     command: StoreCommand<'_>,
     input: Input,
 ) -> Result<(), Failure> {
-    let note = recognise(rt.alloc(), log)?;
-    run_open(rt, log, &note, command, input)
+    let mut note = recognise(rt.alloc(), log)?;
+    run_named(rt, log, &mut note, command, input)
 }
 
 /// The same of a log that is open, and closes its file.

@@ -23,13 +23,18 @@ fn random(rt: &HostRuntime) -> Result<u64, FileFault> {
     }
 }
 
-/// The name, or a random one.
-fn name_of_copy(rt: &HostRuntime, name: Option<&str>) -> Result<String, FileFault> {
-    if let Some(name) = name {
-        return Ok(String::from_str(rt.alloc(), name)?);
-    }
+/// A random name for a store to write by: 16 hexadecimal digits.
+pub fn random_name(rt: &HostRuntime) -> Result<String, FileFault> {
     let number = random(rt)?;
     Ok(format!(in rt.alloc(); "{number:016x}")?)
+}
+
+/// The name, or a random one.
+fn name_of_copy(rt: &HostRuntime, name: Option<&str>) -> Result<String, FileFault> {
+    match name {
+        Some(name) => Ok(String::from_str(rt.alloc(), name)?),
+        None => random_name(rt),
+    }
 }
 
 /// The hash key, or a random one.
@@ -47,7 +52,7 @@ fn key_of_store(
 /// What a new store has.
 #[derive(Clone, Copy)]
 struct Contents<'a> {
-    /// The name by which it writes.
+    /// The name by which it writes; if it is empty, the first write draws one.
     writer: &'a str,
     hash_key: &'a [u8; HASH_KEY_LEN],
     entries: &'a Entries,
@@ -165,16 +170,15 @@ pub fn make_store(
     make_whole(rt, path, &new)
 }
 
-/// Makes a store of these entries under this hash key, which writes by a random name.
+/// Makes a store of these entries under this hash key, without a name: the first write to each copy of it draws one.
 pub fn make_backup(
     rt: &HostRuntime,
     path: &str,
     hash_key: &[u8; HASH_KEY_LEN],
     entries: &Entries,
 ) -> Result<(), FileFault> {
-    let writer = name_of_copy(rt, None)?;
     let new = Contents {
-        writer: writer.as_str(),
+        writer: "",
         hash_key,
         entries,
     };

@@ -81,7 +81,8 @@ and standard output, and brings nothing. mst-sync --diff prints the keys on stan
 const INIT_HELP: &str = "\
 usage: mst init FILE [WRITER] [--hash-key KEY]
 
-Makes a store. WRITER is the name by which this copy writes; by default it is a random one.
+Makes a store. WRITER is the name by which this copy writes; by default it is a random one, and if WRITER is empty the copy draws
+one at its first write.
 
   --hash-key KEY  hashes under this key, as mst hash-key prints it, not under a random one: only copies with the same key
                   pull from each other. mst-clone passes it on
@@ -102,9 +103,8 @@ Removes the key. It ends with status 1 if the key isn't there.
 const BACKUP_HELP: &str = "\
 usage: mst backup FILE TO
 
-Makes the store TO, with every row of FILE and its hash key. TO is there whole or not at all, and writes by a random name of its own.
-To restore it, copy TO to FILE and remove FILE-wal, while no command has FILE. Restore it on one machine alone: mst-clone makes
-further copies.
+Makes the store TO, with every row of FILE and its hash key. TO is there whole or not at all. It has no writer's name: each copy
+of it draws a random one at its first write. To restore it, copy TO to FILE and remove FILE-wal, while no command has FILE.
 ";
 
 const CHECK_HELP: &str = "\
@@ -212,7 +212,7 @@ usage: mst COMMAND FILE [WORDS]
   import FILE            writes the CSV on standard input
   export FILE            prints the keys and values as CSV
   compact FILE           leaves one row in the file for each key
-  backup FILE TO         makes a copy with all rows, under another writer's name
+  backup FILE TO         makes a copy with all rows, to be restored by cp
   shell FILE             reads commands from standard input, one a line
   serve FILE             answers a peer on standard input and standard output
   pull FILE              fetches what a peer on standard input and standard output has later

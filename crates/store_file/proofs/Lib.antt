@@ -9,6 +9,7 @@ pub mod LastRow
 pub mod Marked
 pub mod OneLayout
 pub mod OrderOfEntries
+pub mod OtherNotes
 pub mod Outcomes
 pub mod Reading
 pub mod RowLemmas

@@ -4,6 +4,8 @@ use Rattle.key_order.specs.Text.{Text as Key}
 use Rattle.sqlite_value.specs.Order.{Row}
 use Rattle.sqlite_trees.specs.Tree.{Trees, put_row}
 use Rattle.store_file.specs.Entries.{entry_row, entry_row_of, note_row, with_more_rows, IsNoted}
+use Rattle.store_file.specs.Notes.{Notes}
+use Rattle.store_file.specs.declared.format.Note.{Note}
 use Rattle.store_file.specs.declared.register.Register.{Register}
 
 -- no entry, and nothing noted
@@ -24,6 +26,13 @@ KeepsNotes old new = new 1 ≡ old 1
 pub record HasNoteMore (format : ℤ) (writer hash_key : List ℕ) (old new : Trees) : Type 0 where
   pub entries : new 0 ≡ old 0
   pub about : new 1 ≡ put_row (note_row format writer hash_key) (old 1)
+
+-- the store writes by this name, and has its format, its hash key and its entries as before
+pub record WritesByNow (writer : List ℕ) (old new : Trees) : Type 0 where
+  pub entries : new 0 ≡ old 0
+  pub note : Note
+  pub noted : Notes old note
+  pub about : IsNoted new note.format writer note.hash_key
 
 module _ (rows : List Row) (old new : Trees) where
   -- the table of entries has these rows too, and nothing else has changed

@@ -40,7 +40,7 @@ pub struct Note {
 }
 
 /// Fills in the first note, and returns whether it is the only one.
-fn only_note<S: Store>(
+pub(crate) fn only_note<S: Store>(
     trees: &mut S,
     none: &Row,
     first: &mut Row,
@@ -61,7 +61,7 @@ fn only_note<S: Store>(
 }
 
 /// A number.
-fn number_in(value: ValueRef<'_>) -> Result<i64, StoreFault>
+pub(crate) fn number_in(value: ValueRef<'_>) -> Result<i64, StoreFault>
     ensures number { IfOk result (λ number. owned value.entry ≡ Int number) }
     ensures failed { IfErr result IsFailure }
 {
@@ -86,7 +86,7 @@ fn hash_key_in(value: ValueRef<'_>) -> Result<[u8; HASH_KEY_LEN], StoreFault>
 }
 
 /// What a row notes.
-fn note_of(alloc: Global, row: &Row) -> Result<Note, StoreFault>
+pub(crate) fn note_of(alloc: Global, row: &Row) -> Result<Note, StoreFault>
     ensures note { IfOk result (λ note. note_in row.now ≡ Int note.format ∷ Text (string_bytes note.writer) ∷ Blob note.hash_key ∷ []) }
     ensures failed { IfErr result IsFailure }
 {
@@ -134,7 +134,7 @@ pub fn about<S: Store>(alloc: Global, log: &mut Log<S>) -> Result<Note, StoreFau
 }
 
 /// The note, where it has this program's format.
-fn in_format(note: Note) -> Result<Note, StoreFault>
+pub(crate) fn in_format(note: Note) -> Result<Note, StoreFault>
     ensures { MatchResult result (λ it. (it ≡ note) × (note.format ≡ FORMAT)) (λ why. (why ≡ StoreFault.Format note.format) × (note.format ≢ FORMAT)) }
 {
     if note.format == FORMAT {
@@ -198,7 +198,7 @@ fn is_blank<S: Store>(trees: &mut S, none: &Row, row: &mut Row) -> Result<bool, 
 }
 
 /// Writes the note.
-fn write_note<S: Store>(
+pub(crate) fn write_note<S: Store>(
     trees: &mut S,
     row: &mut Row,
     writer: &str,

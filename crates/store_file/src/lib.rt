@@ -9,6 +9,7 @@ pub mod file;
 pub mod format;
 pub mod latest;
 pub mod log;
+pub mod naming;
 pub mod reader;
 pub mod register;
 mod registers;
