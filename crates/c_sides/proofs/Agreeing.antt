@@ -17,12 +17,7 @@ module _ {X Y : Type 0} (P Q : X → Y → Type 0) (R : X → Type 0) (carries :
   each_told (t ∷ ts) left r p = (carries t.0 t.1 r.0 p.0, each_told ts left r.1 p.1)
 
   pub told_alike : (asked : List X) (told : List (X × Y)) → AllByRecursion R asked → TellsFirst P asked told → TellsFirst Q asked told
-  told_alike asked told r answers = record {
-    left = answers.left;
-    begins = answers.begins;
-    some = answers.some;
-    each = each_told told answers.left (subst (AllByRecursion R) answers.begins r) answers.each;
-  }
+  told_alike asked told r (left, begins, some, each) = (left, begins, some, each_told told left (subst (AllByRecursion R) begins r) each)
 
 pub reply_alike : ReplyAlike
 reply_alike (Root settings) handed kept tree reply agree is = absurd agree

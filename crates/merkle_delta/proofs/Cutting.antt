@@ -1,10 +1,14 @@
 -- Bytes are cut, one byte after the other, and their chunks are all of them.
-use Rattle.std.proofs.Common.{◌≡◌, ℕ, ◌+◌, ◌-◌, ◌<◌, ◌≤◌, List, [], ◌∷◌, ◌++◌, length, drop, slice_range, true, false, if◌then◌else◌, inl, inr, refl, sym, ap, ap₂, subst, get_or, ◌∙◌, arith}
+use Rattle.std.proofs.Common.{◌≡◌, ℕ, ◌+◌, ◌-◌, ◌<◌, ◌≤◌, List, [], ◌∷◌, ◌++◌, length, drop, slice_range, true, false, if◌then◌else◌, inl, inr, refl, sym, ap, ap₂, subst, get_or, ◌∙◌, arith, map}
 use Rattle.std.specs.List.{AllByRecursion, concat}
 use Rattle.std.proofs.lemmas.List.{append_assoc, append-nil, drop-drop, drop_all, drop_more, take-append-drop}
 use Rattle.std.proofs.lemmas.Bool.{cases_Bool, cases_eq, eq-eqb, ne_eqb}
 use Rattle.key_order.proofs.ListParts.{each-append}
-use Rattle.merkle_delta.specs.Chunks.{chunks_at, chunks_of, ends_chunk, ranges_from, window_with}
+use Rattle.merkle_delta.specs.Chunks.{chunks_of, ends_chunk, ranges_from, window_with}
+
+-- the chunks at these places
+abbrev pub chunks_at : List ℕ → List (ℕ × ℕ) → List (List ℕ)
+chunks_at bytes = map (λ range. slice_range bytes range.0 range.1)
 
 -- a chunk ends after the next byte
 pub ranges_ends : (window start at byte : ℕ) (more : List ℕ) → ends_chunk (window_with window byte) (at + 1 - start) ≡ true

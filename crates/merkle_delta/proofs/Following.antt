@@ -5,8 +5,7 @@ use Rattle.std.proofs.lemmas.List.{append_assoc, append-nil, length-append, flat
 use Rattle.key_order.proofs.ListParts.{join_tells}
 use Rattle.merkle_digest.specs.SipHash.{siphash128, output}
 use Rattle.merkle_delta.specs.Chunks.{digest_of}
-use Rattle.merkle_delta.specs.Deltas.{IsDeltaOver, Step, step_bytes, given_by, chunks_after, bytes_from_steps, IsStepOver, AreStepsOver}
-use Rattle.merkle_delta.specs.Steps.{IsStepTaken, AreGiven}
+use Rattle.merkle_delta.specs.Deltas.{IsDeltaOver, Step, step_bytes, given_by, chunks_after, bytes_from_steps, IsStepOver, AreStepsOver, IsStepTaken}
 use Rattle.merkle_delta.proofs.Stepping.{left_behind, over-more, patched-more, left-more, step-some, step_told, steps_told}
 use Rattle.merkle_bytes.specs.Reading.{BeginsWithNo}
 
@@ -67,15 +66,10 @@ module _ (own : List (List ℕ)) (whole : List ℕ) where
           )
 
   -- where nothing is left, all are taken
-  pub all_taken : (chunks : List (List ℕ)) (left given : List ℕ) → AreTaken chunks left given → left ≡ [] → AreGiven own whole given
-  all_taken chunks left given so none = (
-    (so.steps, so.over, so.read ∙ ap (λ t. flat_map step_bytes so.steps ++ t) none ∙ append-nil (flat_map step_bytes so.steps), so.gives),
-    λ all over e. let b = so.rest all over e in last b.0 b.2 b.3,
-  )
-    where
-      last : {all : List ℕ} (others : List Step) → left ≡ flat_map step_bytes others → all ≡ given ++ bytes_from_steps chunks others → given ≡ all
-      last [] e gives = sym (gives ∙ append-nil given)
-      last (s ∷ ss) e gives = absurd (omega (arith, step-some s, ap length (sym none ∙ e), length-append (step_bytes s) (flat_map step_bytes ss)))
+  pub all_taken : (chunks : List (List ℕ)) (left given : List ℕ) → AreTaken chunks left given → left ≡ []
+      → IsDeltaOver own (digest_of given ++ whole) given
+  all_taken chunks left given so none =
+      (so.steps, so.over, so.gives, ap (λ t. digest_of given ++ t) (so.read ∙ ap (λ t. flat_map step_bytes so.steps ++ t) none ∙ append-nil (flat_map step_bytes so.steps)))
 
   -- where something is left that is no step, the whole is no steps
   pub none_left : (chunks : List (List ℕ)) (left given : List ℕ) → AreTaken chunks left given → left ≢ [] → BeginsWithNo step_bytes (IsStepOver chunks) left → (all : List Step)
@@ -108,10 +102,12 @@ module _ (own : List (List ℕ)) (whole bytes : List ℕ) where
   no_delta digest left read long none over = let (same, (steps, are, gives, is)) = delta_parts digest left read long over in none steps are is
 
   -- nor is it where they give bytes with another digest
-  pub other_digest : (digest left given : List ℕ) → whole ≡ digest ++ left → length digest ≡ 16 → AreGiven own left given → digest_of given ≢ digest → ¬ IsDeltaOver own whole bytes
-  other_digest digest left given read long all other over =
+  pub other_digest : (digest left given : List ℕ) → whole ≡ digest ++ left → length digest ≡ 16
+      → IsDeltaOver own (digest_of given ++ left) given → digest_of given ≢ digest → ¬ IsDeltaOver own whole bytes
+  other_digest digest left given read long (others, over_own, gave, begins) other over =
       let (same, (steps, are, gives, is)) = delta_parts digest left read long over in
-      other (ap digest_of (all.1 steps are is ∙ sym gives) ∙ sym same)
+      let told = (join_tells (digest_of given) (digest_of given) left (flat_map step_bytes others) refl begins).1 in
+      other (ap digest_of (gave ∙ ap (bytes_from_steps own) (steps_told own others steps over_own are (sym told ∙ is)) ∙ sym gives) ∙ sym same)
 
 -- over the same chunks a delta is that of one byte string
 pub delta_alone : (own : List (List ℕ)) (whole a b : List ℕ) → IsDeltaOver own whole a → IsDeltaOver own whole b → a ≡ b

@@ -8,10 +8,8 @@ use Rattle.merkle_bytes.specs.Encodings.{string_encoding}
 use Rattle.merkle_bytes.specs.Refusals.{IsMalformed}
 use Rattle.merkle_bytes.specs.declared.error.ReadError.{ReadError}
 use Rattle.merkle_bytes.specs.declared.error.ReadError.TheVariants as read
-use Rattle.merkle_delta.specs.Faults.{unread_delta}
+use Rattle.merkle_delta.specs.Deltas.{unread_delta, IsStepTaken, Step, step_bytes, chunks_after, given_by, IsStepOver, bytes_from_steps, AreStepsOver}
 use Rattle.merkle_delta.specs.declared.patch.PatchError.TheVariants.{Unlike}
-use Rattle.merkle_delta.specs.Steps.{IsStepTaken}
-use Rattle.merkle_delta.specs.Deltas.{Step, step_bytes, chunks_after, given_by, IsStepOver, bytes_from_steps, AreStepsOver}
 use Rattle.merkle_bytes.specs.Reading.{BeginsWithNo}
 
 -- bytes are no delta only where they are malformed

@@ -3,8 +3,7 @@ use Rattle.std.proofs.Common.{◌≡◌, ℕ, zero, suc, ◌+◌, ◌-◌, ◌<�
 use Rattle.std.specs.List.{AllByRecursion, concat, flat_map}
 use Rattle.std.proofs.lemmas.List.{drop-drop, drop-map, get_or-drop, length-drop, length-map, map-append, take_more, take_all, take-map, take-take, drop-take, take-append-drop, flat_map_more}
 use Rattle.merkle_delta.specs.Chunks.{checksum}
-use Rattle.merkle_delta.specs.Deltas.{Step, step_bytes, bytes_from_steps, AreStepsOver, AreToldApart}
-use Rattle.merkle_delta.specs.Steps.{HaveChecksums, AddsSteps}
+use Rattle.merkle_delta.specs.Deltas.{Step, step_bytes, bytes_from_steps, AreStepsOver, AreToldApart, HaveChecksums, AddsSteps}
 use Rattle.merkle_delta.proofs.Stepping.{left_behind, concat-more, concat-append, over-more, patched-more, left-more}
 
 module _ {X : Type 0} (P : X → Type 0) where

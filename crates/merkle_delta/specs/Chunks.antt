@@ -14,17 +14,12 @@ ends_chunk window len = nat_le 96 len || (nat_le 16 len && nat_lt ((window * 265
 -- where the chunks of the bytes after a place begin and end, where one has begun at `start`
 unfoldable pub ranges_from : ℕ → ℕ → ℕ → List ℕ → List (ℕ × ℕ)
 ranges_from window start at [] = if (nat_eq start at) then [] else ((start, at) ∷ [])
-ranges_from window start at (byte ∷ more) =
-    let now = window_with window byte in
+ranges_from window start at (byte ∷ more) = let now = window_with window byte in
     if (ends_chunk now (at + 1 - start)) then ((start, at + 1) ∷ ranges_from now (at + 1) (at + 1) more) else (ranges_from now start (at + 1) more)
-
--- the chunks at these places
-abbrev pub chunks_at : List ℕ → List (ℕ × ℕ) → List (List ℕ)
-chunks_at bytes = map (λ range. slice_range bytes range.0 range.1)
 
 -- the chunks of bytes
 abbrev pub chunks_of : List ℕ → List (List ℕ)
-chunks_of bytes = chunks_at bytes (ranges_from 0 0 0 bytes)
+chunks_of bytes = map (λ range. slice_range bytes range.0 range.1) (ranges_from 0 0 0 bytes)
 
 -- the digest of bytes: SipHash under the zero key
 abbrev pub digest_of : List ℕ → List ℕ

@@ -1,11 +1,14 @@
 -- What bytes are over the chunks of others: which of these they have, and what stands between them.
 use Rattle.std.specs.Prelude.{◌≡◌, ℕ, ◌+◌, ◌≤◌, List, [], ◌∷◌, ◌++◌, length, map, take, drop, ◌⊎◌, ⊤}
 use Rattle.std.proofs.Common.{inl, inr}
-use Rattle.std.specs.Global.{Vec}
 use Rattle.std.specs.List.{AllByRecursion, concat, flat_map}
 use Rattle.merkle_bytes.specs.Counts.{count_bytes}
 use Rattle.merkle_bytes.specs.Encodings.{string_encoding}
 use Rattle.merkle_delta.specs.Chunks.{checksum, chunks_of, digest_of}
+use Rattle.merkle_bytes.specs.declared.error.ReadError.{ReadError}
+use Rattle.merkle_bytes.specs.declared.error.ReadError.TheVariants as read
+use Rattle.merkle_delta.specs.declared.patch.PatchError.{PatchError}
+use Rattle.merkle_delta.specs.declared.patch.PatchError.TheVariants as patch
 
 -- a step: this many chunks are passed by, and this many taken after them; or other bytes come
 abbrev pub Step : Type 0
@@ -42,20 +45,32 @@ AreStepsOver chunks (step ∷ steps) = IsStepOver chunks step × AreStepsOver (c
 
 -- over the chunks the delta is that of the bytes: their digest, and steps
 abbrev pub IsDeltaOver : List (List ℕ) → List ℕ → List ℕ → Type 0
-IsDeltaOver chunks delta bytes = (steps : List Step) × AreStepsOver chunks steps × (bytes ≡ bytes_from_steps chunks steps)
-    × (delta ≡ digest_of bytes ++ flat_map step_bytes steps)
-
--- the bytes of a delta are no more than those of the chunks and its own
-abbrev pub DeltasAreBounded : Type 0
-DeltasAreBounded = (chunks : List (List ℕ)) (delta bytes : List ℕ) → IsDeltaOver chunks delta bytes
-    → length bytes ≤ length (concat chunks) + length delta
+IsDeltaOver chunks delta bytes = (steps : List Step) × AreStepsOver chunks steps × (bytes ≡ bytes_from_steps chunks steps) × (delta ≡ digest_of bytes ++ flat_map step_bytes steps)
 
 -- each chunk that has the checksum of one of the others is that one
 abbrev pub AreToldApart : List (List ℕ) → List (List ℕ) → Type 0
 AreToldApart chunks others = AllByRecursion (λ other. AllByRecursion (λ chunk. checksum chunk ≡ checksum other → chunk ≡ other) chunks) others
 
--- a delta begins with the digest of the bytes, and it is that of the bytes over any chunks that have these checksums and are told apart by them from
--- the chunks of the bytes
+-- a delta begins with the digest of the bytes, and is one over any chunks with these checksums that are told apart by them from those of the bytes
 abbrev pub IsDelta : List ℕ → List ℕ → List ℕ → Type 0
 IsDelta checksums bytes delta = (steps : List Step) × (delta ≡ digest_of bytes ++ flat_map step_bytes steps)
     × ((chunks : List (List ℕ)) → map checksum chunks ≡ checksums → AreToldApart chunks (chunks_of bytes) → AreStepsOver chunks steps × (bytes ≡ bytes_from_steps chunks steps))
+
+-- why bytes that were not read are not applied: out of memory, or they are no delta's
+abbrev pub unread_delta : ReadError → PatchError
+unread_delta read.Memory = patch.Memory
+unread_delta (read.Unexpected offset expected) = patch.Unlike
+
+-- this many checksums from a place on are those of the chunks from another on
+abbrev pub HaveChecksums : List ℕ → List (List ℕ) → ℕ → ℕ → ℕ → Type 0
+HaveChecksums checksums chunks from done len = (from + len ≤ length checksums) × (done + len ≤ length chunks) × (take len (drop from checksums) ≡ map checksum (take len (drop done chunks)))
+
+-- steps are added that give the chunks, over any that have these checksums and are told apart by them
+abbrev pub AddsSteps : List ℕ → List (List ℕ) → List ℕ → List ℕ → Type 0
+AddsSteps checksums chunks old new = (steps : List Step) × (new ≡ old ++ flat_map step_bytes steps)
+    × ((own : List (List ℕ)) → map checksum own ≡ checksums → AreToldApart own chunks → AreStepsOver own steps × (concat chunks ≡ bytes_from_steps own steps))
+
+-- a step was read, and what it gives was added: these chunks are after it, and these bytes are left
+abbrev pub IsStepTaken : List (List ℕ) → List ℕ → List ℕ → List (List ℕ) → List ℕ → List ℕ → Type 0
+IsStepTaken chunks left given behind left' given' = (step : Step) × IsStepOver chunks step × (left ≡ step_bytes step ++ left')
+    × (given' ≡ given ++ given_by chunks step) × (behind ≡ chunks_after chunks step)

@@ -1,5 +1,5 @@
 -- Messages that tell checksums, and replies that are deltas.
-use Rattle.std.specs.Prelude.{◌≡◌, ◌≢◌, ℕ, ◌<◌, ◌^◌, List, [], ◌∷◌, ◌++◌, Option, Some, None}
+use Rattle.std.specs.Prelude.{◌≡◌, ◌≢◌, ℕ, ◌<◌, ◌^◌, List, ◌∷◌, ◌++◌, Option, Some, None}
 use Rattle.std.specs.Global.{Vec}
 use Rattle.std.specs.List.{AllByRecursion}
 use Rattle.merkle_bytes.specs.Counts.{count_bytes}
@@ -14,10 +14,6 @@ asking_bytes checksums question = 1 ∷ 6 ∷ (list_bytes count_bytes checksums 
 abbrev pub IsPlain : List ℕ → Type 0
 IsPlain message = (rest : List ℕ) → message ≢ 1 ∷ 6 ∷ rest
 
--- a reply that is a delta: version 1, kind 134
-abbrev pub telling_bytes : List ℕ → List ℕ
-telling_bytes delta = 1 ∷ 134 ∷ delta
-
 -- the message asks a question: alone, or after checksums
 abbrev pub AsksQuestion : Option (Vec ℕ) → List ℕ → List ℕ → Type 0
 AsksQuestion None question message = (message ≡ question) × IsPlain message
@@ -25,14 +21,13 @@ AsksQuestion (Some checksums) question message = message ≡ asking_bytes checks
 
 -- the message begins as one with checksums, and no checksums are there
 abbrev pub AsksNone : List ℕ → Type 0
-AsksNone message = ((rest : List ℕ) × (message ≡ 1 ∷ 6 ∷ rest))
-    × ((checksums question : List ℕ) → AllByRecursion (λ c. c < 2 ^ 32) checksums → message ≢ asking_bytes checksums question)
+AsksNone message = ((rest : List ℕ) × (message ≡ 1 ∷ 6 ∷ rest)) × ((checksums question : List ℕ) → AllByRecursion (λ c. c < 2 ^ 32) checksums → message ≢ asking_bytes checksums question)
 
--- the reply is a plain one, or tells it as its delta for the checksums
+-- the reply is a plain one, or tells it as its delta for the checksums: version 1, kind 134
 abbrev pub IsToldFor : Option (Vec ℕ) → List ℕ → List ℕ → Type 0
 IsToldFor None plain reply = reply ≡ plain
-IsToldFor (Some checksums) plain reply = (delta : List ℕ) × (reply ≡ telling_bytes delta) × IsDelta checksums.items plain delta
+IsToldFor (Some checksums) plain reply = (delta : List ℕ) × (reply ≡ 1 ∷ 134 ∷ delta) × IsDelta checksums.items plain delta
 
 -- the reply is the delta of a plain one over these chunks
 abbrev pub IsReplyOver : List (List ℕ) → List ℕ → List ℕ → Type 0
-IsReplyOver own reply plain = (delta : List ℕ) × (reply ≡ telling_bytes delta) × IsDeltaOver own delta plain
+IsReplyOver own reply plain = (delta : List ℕ) × (reply ≡ 1 ∷ 134 ∷ delta) × IsDeltaOver own delta plain

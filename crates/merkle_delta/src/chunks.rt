@@ -1,5 +1,5 @@
 //! Bytes in chunks.
-ghost use Rattle.std.specs.Prelude.{◌≡◌, ◌<◌, ◌≤◌, ◌+◌, ◌-◌, ◌++◌, ◌^◌, [], get_or, length, IfOk};
+ghost use Rattle.std.specs.Prelude.{◌≡◌, ◌<◌, ◌≤◌, ◌+◌, ◌-◌, ◌^◌, [], get_or, length, IfOk};
 ghost use Rattle.merkle_delta.specs.Chunks.{chunks_of, ends_chunk, window_with};
 
 use std::alloc::{AllocError, Global};
@@ -25,13 +25,12 @@ pub struct Chunks {
 }
 
 impl Model for Chunks {
-    ghost use Rattle.std.specs.Prelude.{ℕ, List, ◌≤◌, length};
+    ghost use Rattle.std.specs.Prelude.{ℕ, List, ◌≤◌, length, map, slice_range};
     ghost use Rattle.std.specs.List.{AllByRecursion};
-    ghost use Rattle.merkle_delta.specs.Chunks.{chunks_at};
 
     ghost Value = { List (List ℕ) };
 
-    ghost view = { λ chunks. chunks_at chunks.bytes.items chunks.ranges.items };
+    ghost view = { λ chunks. map (λ range. slice_range chunks.bytes.items range.0 range.1) chunks.ranges.items };
 
     ghost invariant = { λ chunks. AllByRecursion (λ range. (range.0 ≤ range.1) × (range.1 ≤ length chunks.bytes.items)) chunks.ranges.items };
 }

@@ -3,8 +3,7 @@ ghost use Rattle.std.specs.Prelude.{◌≡◌, ℕ, List, [], get_or, ◌≤◌,
 ghost use Rattle.merkle_bytes.specs.Counts.{count_bytes};
 ghost use Rattle.merkle_bytes.specs.Encodings.{AddsBytes, string_encoding};
 ghost use Rattle.merkle_delta.specs.Chunks.{checksum};
-ghost use Rattle.merkle_delta.specs.Deltas.{IsDelta};
-ghost use Rattle.merkle_delta.specs.Steps.{AddsSteps, HaveChecksums};
+ghost use Rattle.merkle_delta.specs.Deltas.{IsDelta, AddsSteps, HaveChecksums};
 
 use crate::checksum::{checksum, digest_of};
 use crate::chunks::Chunks;

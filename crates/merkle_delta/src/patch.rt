@@ -3,8 +3,7 @@ ghost use Rattle.std.specs.Prelude.{◌≡◌, ◌≢◌, ℕ, List, ◌-◌, �
 ghost use Rattle.std.specs.List.{concat, flat_map};
 ghost use Rattle.merkle_bytes.specs.Reading.{BeginsWithNo};
 ghost use Rattle.merkle_delta.specs.Chunks.{digest_of};
-ghost use Rattle.merkle_delta.specs.Deltas.{AreStepsOver, IsDeltaOver, IsStepOver, Step, step_bytes};
-ghost use Rattle.merkle_delta.specs.Steps.{AreGiven, IsStepTaken};
+ghost use Rattle.merkle_delta.specs.Deltas.{AreStepsOver, IsDeltaOver, IsStepOver, Step, step_bytes, IsStepTaken};
 ghost use Rattle.merkle_delta.specs.declared.patch.PatchError.TheVariants.{Unlike};
 
 use crate::checksum::digest_of;
@@ -32,7 +31,7 @@ impl From<AllocError> for PatchError {
 }
 
 impl From<ReadError> for PatchError {
-    ghost use Rattle.merkle_delta.specs.Faults.{unread_delta};
+    ghost use Rattle.merkle_delta.specs.Deltas.{unread_delta};
 
     ghost from_gives = { λ error fault. fault ≡ unread_delta error };
 
@@ -70,7 +69,7 @@ fn has_digest(bytes: &[u8], digest: [u8; 16]) -> bool
 
 /// What the steps give.
 fn follow(own: &Chunks, reader: &mut Reader<'_>) -> Result<Vec<u8>, PatchError>
-    ensures given { IfOk result (λ bytes. AreGiven own.now reader.old.left.now bytes.items) }
+    ensures given { IfOk result (λ bytes. IsDeltaOver own.now (digest_of bytes.items ++ reader.old.left.now) bytes.items) }
     ensures unlike { IfErr result (λ error. error ≡ Unlike → (steps : List Step) → AreStepsOver own.now steps
         → reader.old.left.now ≢ flat_map step_bytes steps) }
 {

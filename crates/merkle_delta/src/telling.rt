@@ -13,7 +13,7 @@ use std::alloc::{AllocError, Global};
 ///
 /// ```rust crates/merkle_store/src/serving.rt
 /// let (checksums, question) = read_message(alloc, message)?;
-/// let plain = answer_within(alloc, replica, question, ANSWER_BYTES)?;
+/// let plain = answer_plainly(alloc, replica, question)?;
 /// Ok(tell(alloc, checksums, plain)?)
 /// ```
 ///

@@ -1,15 +1,14 @@
 -- The messages of a catch-up, each of which a peer replied to, are a plain session.
-use Rattle.std.proofs.Common.{◌≡◌, ℕ, List, [], ◌∷◌, Option, Some, None, sym, ap, subst, ◌∙◌, arith}
+use Rattle.std.proofs.Common.{refl, ◌≡◌, ℕ, List, [], ◌∷◌, Option, Some, None, sym, ap, subst, ◌∙◌, arith}
 use Rattle.std.specs.Global.{Vec}
 use Rattle.merkle_replica.specs.Contents.{Contents, Side, side, tree_map}
 use Rattle.merkle_replica.specs.Laws.{Laws}
 use Rattle.merkle_replica.proofs.SideLaws.{same_side}
 use Rattle.merkle_tree_theory.specs.Canonical.{IsTreeOf}
 use Rattle.merkle_tree_theory.specs.State.{SameSettings}
-use Rattle.merkle_wire.specs.Found.{Found}
+use Rattle.merkle_wire.specs.Underway.{Found, Underway}
 use Rattle.merkle_wire.specs.Next.{AsksOrGoesOn, IsNext}
 use Rattle.merkle_wire.specs.Questions.{question_bytes}
-use Rattle.merkle_wire.specs.Underway.{Underway}
 use Rattle.merkle_wire.specs.declared.catching_up.Next.{Next}
 use Rattle.merkle_wire.specs.declared.catching_up.Next.TheVariants.{Ask, Came}
 use Rattle.merkle_wire.specs.declared.question.Question.{Question}
@@ -19,7 +18,8 @@ use Rattle.merkle_delta.specs.Messages.{IsPlain}
 use Rattle.merkle_delta.specs.declared.hearing.Heard.{Heard}
 use Rattle.merkle_delta.specs.declared.hearing.Heard.TheVariants.{Reply, Again}
 use Rattle.merkle_store.specs.Exchanges.{AreRepliesBy, Exchange, HeardLeads, IsToldReply, LeadTo, NextLeads, NoneCollides, RepliesBring, on_wire}
-use Rattle.merkle_wire.specs.SessionLaws.{SessionsBring, IsPeerReply, IsExchange, AreExchanges}
+use Rattle.merkle_wire.specs.SessionLaws.{SessionsBring, IsPeerReply, IsExchange, AreExchangesTo}
+use Rattle.merkle_wire.specs.Sessions.{AreBrought}
 
 -- the second byte, that of the kind
 abbrev second : List ℕ → ℕ
@@ -45,7 +45,8 @@ module _ {K V H : Type 0} (laws : Laws K V H) (n : ℕ) (encoding : K → List �
   module _ (told_is_heard : ToldIsHeard) (local : Side K V H) (peer : Contents K V H) (rows : List (K × V)) where
     -- exchanges of plain messages lead from a catch-up to the rows
     abbrev HasPlain : Underway K V → Type 0
-    HasPlain session = (more : List (Underway K V)) × AreExchanges laws n encoding values local (side peer) session more rows
+    HasPlain session = (more : List (Underway K V)) × (last : Underway K V) × (came : Vec (K × V)) × (rows ≡ came.items)
+        × AreExchangesTo laws n encoding values local (side peer) session more last × IsExchange laws n encoding values local (side peer) last (Came came)
 
     -- the plain reply of the peer answers what the catch-up asks
     answers : (session : Underway K V) (question message reply : List ℕ) (by : IsToldReply laws n encoding values peer message reply)
@@ -55,11 +56,9 @@ module _ {K V H : Type 0} (laws : Laws K V H) (n : ℕ) (encoding : K → List �
         let settings : SameSettings by.before.tree by.after.tree = (by.settings.1.0 ∙ sym by.settings.0.0, by.settings.1.1 ∙ sym by.settings.0.1, by.settings.1.2 ∙ sym by.settings.0.2) in
         let (read, reads, is_reply) = by.answer.answered in
         subst (λ s. IsPeerReply laws n encoding values local s session by.answer.plain.items) same (record {
-          message = by.answer.question;
           question = read;
           tree = by.after.tree;
-          asks = is ∙ asks;
-          reads = reads;
+          reads = sym (is ∙ asks) ∙ reads;
           settings = settings;
           of_peer = subst (λ s. IsTreeOf laws.cmp (laws.key_digest s.hasher) s.base by.after.tree.root (tree_map laws s)) (sym same) by.of_rows;
           answers = is_reply;
@@ -83,10 +82,10 @@ module _ {K V H : Type 0} (laws : Laws K V H) (n : ℕ) (encoding : K → List �
 
       goes_on : (plain : Vec ℕ) (next : Next K V) → IsHeard e.told e.reply (Reply plain) → IsNext laws n encoding values local session plain.items next
           → NextLeads laws n encoding values local rows others (LeadTo laws n encoding values local rows others) next → HasPlain session
-      goes_on plain (Came came) hears takes (none, same) = ([], (came, exchanged plain (Came came) hears takes, sym same))
+      goes_on plain (Came came) hears takes (none, same) = ([], session, came, sym same, refl, exchanged plain (Came came) hears takes)
       goes_on plain (Ask next asked) hears (found, again, taken, more) leads =
-          let (others_plain, all) = rest next asked.items (asks_next again session.rounds found next asked more) leads in
-          (next ∷ others_plain, (asked, exchanged plain (Ask next asked) hears (found, again, taken, more), all))
+          let (others_plain, last, came, same, all, end) = rest next asked.items (asks_next again session.rounds found next asked more) leads in
+          (next ∷ others_plain, last, came, same, (asked, exchanged plain (Ask next asked) hears (found, again, taken, more), all), end)
 
       -- or none
       one_more : (heard : Heard) → IsHeard e.told e.reply heard → HeardLeads laws n encoding values local rows others
@@ -103,12 +102,6 @@ module _ {K V H : Type 0} (laws : Laws K V H) (n : ℕ) (encoding : K → List �
 
   pub replies_bring : ToldIsHeard → SessionsBring laws n encoding values → RepliesBring laws n encoding values
   replies_bring heard bring local peer session question exchanges rows up up_peer small begins leads replies none =
-      let (more, all) = are_plain heard (side local) peer rows exchanges session question begins.asks leads replies none in
-      bring (side local) (side peer) rows up up_peer small (record {
-        begun = session;
-        settings = begins.settings.0;
-        more = more;
-        asks_root = begins.settings.1;
-        nothing_found = begins.nothing_found;
-        exchanges = all;
-      })
+      let (more, last, came, same, all, end) = are_plain heard (side local) peer rows exchanges session question begins.asks leads replies none in
+      subst (AreBrought laws (side local) (side peer)) (sym same)
+      (bring (side local) (side peer) up up_peer small session last begins.settings.0 more came begins.settings.1 begins.nothing_found all end)

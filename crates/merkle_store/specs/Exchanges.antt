@@ -8,12 +8,11 @@ use Rattle.merkle_replica.specs.Faithful.{HasSmallMap}
 use Rattle.merkle_replica.specs.Laws.{Laws}
 use Rattle.merkle_tree_theory.specs.Canonical.{IsTreeOf}
 use Rattle.merkle_tree_theory.specs.State.{SameSettings}
-use Rattle.merkle_wire.specs.Found.{nothing}
+use Rattle.merkle_wire.specs.Underway.{nothing, Underway}
 use Rattle.merkle_wire.specs.Next.{IsNext}
 use Rattle.merkle_wire.specs.Questions.{AsksForRoot, question_bytes}
 use Rattle.merkle_wire.specs.Replies.{IsAnsweredBy}
 use Rattle.merkle_wire.specs.Sessions.{AreBrought}
-use Rattle.merkle_wire.specs.Underway.{Underway}
 use Rattle.merkle_wire.specs.declared.catching_up.Next.{Next}
 use Rattle.merkle_wire.specs.declared.catching_up.Next.TheVariants.{Ask, Came}
 use Rattle.merkle_delta.specs.Hearing.{IsHeard, IsSafe, IsSentFor, Told}
@@ -43,7 +42,7 @@ AsksAlone (e ∷ others) = e.told ≡ None
 module _ {K V H : Type 0} (laws : Laws K V H) (n : ℕ) (encoding : K → List ℕ) (replica : Contents K V H) where
   -- a catch-up of the replica begins so, with this question: it asks for the root with the replica's settings, and has found nothing
   pub record BeginsCatchUp (session : Underway K V) (question : List ℕ) : Type 0 where
-    pub settings : AsksForRoot (laws.key_digest replica.tree.hasher) n (digests_of replica.tree) session.asked
+    pub settings : AsksForRoot laws.key_digest n (digests_of replica.tree) session.asked
     pub asks : question ≡ question_bytes encoding session.asked
     pub nothing_found : session.found ≡ nothing
 

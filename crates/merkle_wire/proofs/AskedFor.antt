@@ -10,21 +10,20 @@ use Rattle.key_order.proofs.Orders.{low_low, same_from, up_self}
 use Rattle.merkle_replica.specs.Contents.{Side}
 use Rattle.merkle_replica.specs.Laws.{Laws}
 use Rattle.merkle_tree_theory.specs.Gap.{Gap, IsAfter, IsBefore, IsInGap}
-use Rattle.merkle_wire.specs.Asking.{IsAskedOf, IsTakenFrom, all_whole}
-use Rattle.merkle_wire.specs.Coming.{AscendBetween, AscendIn, LiesIn, IsInOneOf, IsAskedFor}
-use Rattle.merkle_wire.specs.Found.{Found}
+use Rattle.merkle_wire.specs.Underway.{IsAskedOf, IsTakenFrom, Found, Underway}
+use Rattle.merkle_wire.specs.Coming.{AscendBetween, AscendIn, LiesIn, IsAskedFor}
 use Rattle.merkle_wire.specs.Gaps.{owned_gap}
 use Rattle.merkle_wire.specs.Next.{IsNext, AsksOrGoesOn, OnlyAskedFor}
 use Rattle.merkle_wire.specs.Outlines.{Outline, rows_told, digests_told, page_told}
 use Rattle.merkle_wire.specs.Replies.{Part}
-use Rattle.merkle_wire.specs.Taking.{IsRootTaken, IsPageTaken, AreTaken, new_rows, value_row}
-use Rattle.merkle_wire.specs.Underway.{Underway, HasTakenReply}
+use Rattle.merkle_wire.specs.Taking.{IsRootTaken, IsPageTaken, AreTaken, value_row, HasTakenReply}
 use Rattle.merkle_wire.specs.declared.catching_up.Next.{Next}
 use Rattle.merkle_wire.specs.declared.catching_up.Next.TheVariants.{Ask, Came}
 use Rattle.merkle_wire.specs.declared.gaps.OwnedGap.{OwnedGap}
 use Rattle.merkle_wire.specs.declared.question.Question.{Question}
 use Rattle.merkle_wire.specs.declared.question.Question.TheVariants.{Root, Outlines, Nodes, RowsAt, RowsIn}
 use Rattle.merkle_wire.specs.declared.wanted.Wanted.{Wanted}
+use Rattle.merkle_wire.proofs.Lacking.{IsInOneOf, all_whole, new_rows}
 
 module _ {X : Type 0} where
   each : (P Q : X → Type 0) → ((x : X) → P x → Q x) → (xs : List X) → AllByRecursion P xs → AllByRecursion Q xs
@@ -124,12 +123,12 @@ module _ {K V H : Type 0} (laws : Laws K V H) (o : IsTotalOrder laws.cmp) (local
         new_rows laws local (flat_map value_row told),
         subst (λ ks. AllByRecursion (λ r. AnyByRecursion (λ w. Same laws.cmp r.0 w.key) ks) (new_rows laws local (flat_map value_row told))) (sym t.1.3)
             (each _ _ (λ r. any-before (λ w. Same laws.cmp r.0 w.key) (map (λ t. t.0) told) t.0) _ (each_passed _ _ (flat_map value_row told) (rows_at_keys told))),
-        ap (λ f. f.rows) t.1.4,
+        ap (λ f. f.rows) t.1.5,
       )
   taken_asked n encoding values (RowsIn gaps) reply before after again t =
-      let told = t.1.0 in
-      in_more_gaps gaps.items (map (λ t. t.0) told) t.1.2 before after t.1.5
-      (new_rows laws local (flat_map (λ t. t.1.rows) told), each_passed _ _ (flat_map (λ t. t.1.rows) told) (rows_in_parts told t.1.6), ap (λ f. f.rows) t.1.9)
+      let (behind, rest, is_left, (told, is, some, begins, up, (are_behind, taken))) = t.1 in
+      in_more_gaps gaps.items (map (λ t. t.0) told) rest before after begins
+      (new_rows laws local (flat_map (λ t. t.1.rows) told), each_passed _ _ (flat_map (λ t. t.1.rows) told) (rows_in_parts told up), ap (λ f. f.rows) taken)
 
 module _ {K V : Type 0} where
   -- what is asked next leaves the rows

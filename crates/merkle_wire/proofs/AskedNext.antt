@@ -8,11 +8,10 @@ use Rattle.merkle_replica.specs.Contents.{Side}
 use Rattle.merkle_replica.specs.Laws.{Laws}
 use Rattle.merkle_tree_theory.specs.Gap.{Gap}
 use Rattle.merkle_tree_theory.specs.Tree.{Tree}
-use Rattle.merkle_wire.specs.Asking.{AsksForSome, IsTakenFrom, all_whole}
-use Rattle.merkle_wire.specs.Found.{Found}
+use Rattle.merkle_wire.specs.Underway.{AsksForSome, IsTakenFrom, Found}
 use Rattle.merkle_wire.specs.Gaps.{owned_gap}
 use Rattle.merkle_wire.specs.Next.{AsksOrGoesOn, GoesOn, rounds_with, IfAsks}
-use Rattle.merkle_wire.specs.Underway.{AsksAgain}
+use Rattle.merkle_wire.specs.Taking.{AsksAgain}
 use Rattle.merkle_wire.specs.declared.catching_up.Next.{Next}
 use Rattle.merkle_wire.specs.declared.catching_up.Next.TheVariants.{Ask, Came}
 use Rattle.merkle_wire.specs.declared.limits.Limits.{Limits}
@@ -20,6 +19,7 @@ use Rattle.merkle_wire.specs.declared.question.Question.{Question}
 use Rattle.merkle_wire.specs.declared.question.Question.TheVariants.{Root, Outlines, Nodes, RowsAt, RowsIn}
 use Rattle.merkle_wire.proofs.Times.{total-append, total-mapped}
 use Rattle.merkle_wire.proofs.Steady.{AsksForPages, IsFilled, IsSteadyCatchUp, times_asked, times_at, times_found, times_in, times_over, total}
+use Rattle.merkle_wire.proofs.Lacking.{all_whole}
 
 module _ {K V H : Type 0} (laws : Laws K V H) (peer : Side K V H) (root : Tree K (List ℕ)) (encoding : K → List ℕ) where
   -- what was found is steady after this many rounds, with a key that is asked about so often besides

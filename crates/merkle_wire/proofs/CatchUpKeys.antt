@@ -13,8 +13,7 @@ use Rattle.merkle_replica.specs.Contents.{Side}
 use Rattle.merkle_replica.specs.Laws.{Laws}
 use Rattle.merkle_tree_theory.specs.Gap.{Gap, SameBound, SameGap, everywhere, part_before, part_behind}
 use Rattle.merkle_tree_theory.specs.Outline.{Item}
-use Rattle.merkle_wire.specs.Asking.{AsksForSome, IsTakenFrom, all_whole}
-use Rattle.merkle_wire.specs.Found.{Found}
+use Rattle.merkle_wire.specs.Underway.{AsksForSome, IsTakenFrom, Found}
 use Rattle.merkle_wire.specs.Gaps.{HasKeyBounds, owned_gap}
 use Rattle.merkle_wire.specs.Outlines.{Outline, rows_told, digests_told, page_told, IsTold, keys_among, nodes_among}
 use Rattle.merkle_wire.specs.Questions.{IsQuestion}
@@ -27,6 +26,7 @@ use Rattle.merkle_wire.proofs.RoundCovers.{each-filter}
 use Rattle.merkle_wire.proofs.TakenGaps.{IsGapOrNone, gap_or_none, nodes_or_none}
 use Rattle.merkle_wire.proofs.TellingReplies.{SameOutline}
 use Rattle.merkle_wire.proofs.Steady.{AreKeysOf}
+use Rattle.merkle_wire.proofs.Lacking.{all_whole}
 
 module _ {K V H : Type 0} (laws : Laws K V H) (o : IsTotalOrder laws.cmp) (is_key : K → Type 0) (alike : (j k : K) → Same laws.cmp j k → is_key j → is_key k) (local : Side K V H) where
   bound_alike : (a b : Option K) → SameBound laws.cmp a b → IsOption is_key a → IsOption is_key b

@@ -18,8 +18,9 @@ use Rattle.merkle_replica.proofs.RowCopies.{copies_are, join_same}
 use Rattle.merkle_replica.proofs.SideLaws.{same_side, rows_alone}
 use Rattle.merkle_tree_theory.specs.State.{SameSettings}
 use Rattle.merkle_wire.specs.Sessions.{IsFaithfulSession, IsNewRow, AreBrought, HasJoined}
-use Rattle.merkle_wire.specs.Taking.{is_digest, has_row}
+use Rattle.merkle_wire.specs.Taking.{is_digest}
 use Rattle.merkle_wire.proofs.RoundCovers.{any-map}
+use Rattle.merkle_wire.proofs.Lacking.{has_row}
 
 module _ {K V H : Type 0} (laws : Laws K V H) (o : IsTotalOrder laws.cmp) (eqv : IsEquivalence laws.eq) (joining : IsJoining laws.eq laws.join)
     (respects : (h : H) (a b : V) → laws.eq a b ≡ true → laws.value_digest h a ≡ laws.value_digest h b)

@@ -8,25 +8,25 @@ module _ {X Y : Type 0} (P : X → Y → Type 0) (bytes : X × Y → List ℕ) (
   -- a reply that begins so tells of what was asked for what fits, and P holds of each entry
   pub record IsTelling (asked : List X) (begun reply : List ℕ) : Type 0 where
     pub fits : TellsWhatFits bytes Fits most asked begun reply
-    pub holds : AllByRecursion (λ t. P t.0 t.1) fits.told
+    pub holds : AllByRecursion (λ t. P t.0 t.1) fits.0
 
   -- nothing more is told where there is nothing more, or where the reply is full
   told_upto : (asked : List X) (begun : List ℕ) → (asked ≡ []) ⊎ IsFull most begun → IsTelling asked begun begun
   told_upto asked begun ends = record {
-    fits = record { told = []; left = asked; begins = refl; is = sym (append-nil begun); each = tt; ends = ends };
+    fits = ([], asked, refl, sym (append-nil begun), tt, ends);
     holds = tt;
   }
 
-  told_more : (x : X) (y : Y) (xs : List X) (begun reply : List ℕ) → P x y → Fits begun (x, y) → IsTelling xs (begun ++ bytes (x, y)) reply → IsTelling (x ∷ xs) begun reply
+  told_more : (x : X) (y : Y) (xs : List X) (begun reply : List ℕ) → P x y → (¬ IsFull most begun) × Fits begun (x, y) → IsTelling xs (begun ++ bytes (x, y)) reply → IsTelling (x ∷ xs) begun reply
   told_more x y xs begun reply p fit t = record {
-    fits = record {
-      told = (x, y) ∷ t.fits.told;
-      left = t.fits.left;
-      begins = ap (λ z. x ∷ z) t.fits.begins;
-      is = t.fits.is ∙ append_assoc begun (bytes (x, y)) (flat_map bytes t.fits.told);
-      each = (fit, t.fits.each);
-      ends = t.fits.ends;
-    };
+    fits = (
+      (x, y) ∷ t.fits.0,
+      t.fits.1,
+      ap (λ z. x ∷ z) t.fits.2,
+      t.fits.3 ∙ append_assoc begun (bytes (x, y)) (flat_map bytes t.fits.0),
+      (fit, t.fits.4),
+      t.fits.5,
+    );
     holds = (p, t.holds);
   }
 
@@ -35,7 +35,7 @@ module _ {X Y : Type 0} (P : X → Y → Type 0) (bytes : X × Y → List ℕ) (
   IsContinued asked begun i now = (reply : List ℕ) → IsTelling (drop i asked) now reply → IsTelling asked begun reply
 
   pub continued_more : (asked : List X) (begun now new : List ℕ) (i : ℕ) (x : X) (y : Y) → i < length asked → x ≡ get_or asked i x → IsContinued asked begun i now → P x y
-      → Fits now (x, y) → new ≡ now ++ bytes (x, y)
+      → (¬ IsFull most now) × Fits now (x, y) → new ≡ now ++ bytes (x, y)
       → IsContinued asked begun (i + 1) new
   continued_more asked begun now new i x y low is on p fit put reply t =
       on reply (subst (λ xs. IsTelling xs now reply) (sym (drop_more asked i x low ∙ ap (λ z. z ∷ drop (i + 1) asked) (sym is)))
@@ -50,11 +50,11 @@ module _ {X Y : Type 0} (P : X → Y → Type 0) (bytes : X × Y → List ℕ) (
   -- after a front of two bytes that answers, since at least one entry is told
   pub telling_answers : (asked : List X) (begun reply : List ℕ) → length begun ≡ 2 → IsTelling asked begun reply → (told : List (X × Y))
       × TellsFirst P asked told × (reply ≡ begun ++ flat_map bytes told)
-  telling_answers asked begun reply two t = (t.fits.told, record { left = t.fits.left; begins = t.fits.begins; some = some; each = t.holds }, t.fits.is)
+  telling_answers asked begun reply two t = (t.fits.0, (t.fits.1, t.fits.2, some, t.holds), t.fits.3)
     where
-      some : asked ≢ [] → t.fits.told ≢ []
-      some asks none = by t.fits.ends
+      some : asked ≢ [] → t.fits.0 ≢ []
+      some asks none = by t.fits.5
         where
-          by : (t.fits.left ≡ []) ⊎ IsFull most reply → ⊥
-          by (inl nothing) = asks (t.fits.begins ∙ ap (λ ts. map (λ t. t.0) ts ++ t.fits.left) none ∙ nothing)
-          by (inr full) = absurd (omega (arith, full, two, ap length (t.fits.is ∙ ap (λ ts. begun ++ flat_map bytes ts) none ∙ append-nil begun)))
+          by : (t.fits.1 ≡ []) ⊎ IsFull most reply → ⊥
+          by (inl nothing) = asks (t.fits.2 ∙ ap (λ ts. map (λ t. t.0) ts ++ t.fits.1) none ∙ nothing)
+          by (inr full) = absurd (omega (arith, full, two, ap length (t.fits.3 ∙ ap (λ ts. begun ++ flat_map bytes ts) none ∙ append-nil begun)))

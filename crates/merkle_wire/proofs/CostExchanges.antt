@@ -20,14 +20,13 @@ use Rattle.merkle_tree_theory.specs.Tree.{Tree, page, high, node, below}
 use Rattle.merkle_tree_theory.specs.declared.page_format.PageFormat.{PageFormat}
 use Rattle.merkle_tree_theory.proofs.InGaps.{all_within}
 use Rattle.merkle_tree_theory.proofs.PagesIn.{itself}
-use Rattle.merkle_wire.specs.Cost.{lacked_of_tree, lacked_pages, entries_taken}
-use Rattle.merkle_wire.specs.Found.{Found}
+use Rattle.merkle_wire.specs.SessionLaws.{lacked_of_tree, lacked_pages, entries_taken}
+use Rattle.merkle_wire.specs.Underway.{Found, Underway}
 use Rattle.merkle_wire.specs.Gaps.{owned_gap}
 use Rattle.merkle_wire.specs.Next.{IsNext}
 use Rattle.merkle_wire.specs.Outlines.{Outline, rows_told, digests_told, page_told, IsTold}
 use Rattle.merkle_wire.specs.Replies.{IsReply, items_over, whole_digest}
-use Rattle.merkle_wire.specs.Taking.{AreNewGaps, AreTaken, HasPageAt, IsRootTaken, IsPageTaken}
-use Rattle.merkle_wire.specs.Underway.{HasTakenReply, Underway}
+use Rattle.merkle_wire.specs.Taking.{AreNewGaps, AreTaken, HasPageAt, IsRootTaken, IsPageTaken, HasTakenReply}
 use Rattle.merkle_wire.specs.declared.catching_up.Next.{Next}
 use Rattle.merkle_wire.specs.declared.gaps.OwnedGap.{OwnedGap}
 use Rattle.merkle_wire.specs.declared.message.Kind.TheVariants.{Outlines as outlines_kind, Nodes as nodes_kind}
@@ -200,17 +199,17 @@ module _ {K V H : Type 0} (laws : Laws K V H) (o : IsTotalOrder laws.cmp) (eqv :
   )
 
   -- a reply is paid for
-  reply_pays : (digest_of : K → List ℕ) (u : Underway K V) (question : Question K) (reply : List ℕ) (after : Found K V) (again : Option (Question K))
+  reply_pays : (u : Underway K V) (question : Question K) (reply : List ℕ) (after : Found K V) (again : Option (Question K))
       → IsSteadyCatchUp laws (side peer) root u → SameQuestion laws.cmp encoding u.asked question
-      → IsReply laws.cmp laws.bytes_of encoding values digest_of n peer.rows peer.tree question reply → (taken : HasTakenReply laws n encoding values local u.asked reply u.found after again)
+      → IsReply laws n encoding values peer.rows peer.tree question reply → (taken : HasTakenReply laws n encoding values local u.asked reply u.found after again)
       → (entries_taken laws n encoding values local outlines_kind u.asked reply u.found after again
       taken + (again_of (pages_by laws (side peer) root is_there) again + pages_found after) ≤ pages_by laws (side peer) root is_there u.asked + pages_found u.found)
       × (entries_taken laws n encoding values local nodes_kind u.asked reply u.found after again taken + (again_of (nodes_by laws (side peer) root is_there) again + nodes_found after)
       ≤ entries_taken laws n encoding values local outlines_kind u.asked reply u.found after again taken + (nodes_by laws (side peer) root is_there u.asked + nodes_found u.found))
-  reply_pays digest_of u question reply after again s = by u.asked question s.asked
+  reply_pays u question reply after again s = by u.asked question s.asked
     where
       by : (asked question : Question K) → AsksForPages laws (side peer) root u.rounds asked → SameQuestion laws.cmp encoding asked question
-          → IsReply laws.cmp laws.bytes_of encoding values digest_of n peer.rows peer.tree question reply → (taken : HasTakenReply laws n encoding values local asked reply u.found after again)
+          → IsReply laws n encoding values peer.rows peer.tree question reply → (taken : HasTakenReply laws n encoding values local asked reply u.found after again)
           → (entries_taken laws n encoding values local outlines_kind asked reply u.found after again
           taken + (again_of (pages_by laws (side peer) root is_there) again + pages_found after) ≤ pages_by laws (side peer) root is_there asked + pages_found u.found)
           × (entries_taken laws n encoding values local nodes_kind asked reply u.found after again taken + (again_of (nodes_by laws (side peer) root is_there) again + nodes_found after)
@@ -228,7 +227,7 @@ module _ {K V H : Type 0} (laws : Laws K V H) (o : IsTotalOrder laws.cmp) (eqv :
               arith,
               ap (total about) are,
               total-append about (map (λ t. t.0) told) left,
-              all_pay u.rounds told told' u.found after (each-before Filled_at (map (λ t. t.0) told) left (subst (AllByRecursion Filled_at) are pages)) lists answers.each taken,
+              all_pay u.rounds told told' u.found after (each-before Filled_at (map (λ t. t.0) told) left (subst (AllByRecursion Filled_at) are pages)) lists answers.3 taken,
               again_weighs (pages_by laws (side peer) root is_there) (Outlines m) (total about) left again (λ xs. refl) asks,
             ),
             omega (arith, nodes_more told u.found after taken, again_weighs (nodes_by laws (side peer) root is_there) (Outlines m) (λ xs. 0) left again (λ xs. refl) asks),
@@ -236,7 +235,7 @@ module _ {K V H : Type 0} (laws : Laws K V H) (o : IsTotalOrder laws.cmp) (eqv :
       by (Nodes m gs) (Nodes m' hs) pages alike (told', answers, sent) (left, has, asks) =
           let lists = lists_alike laws o eqv encoding values tell n local peer root sides small false nodes_kind gs.items hs.items left reply u.found after told' alike answers sent has in
           let (told, read, some, are, lies, taken) = has in
-          let (p, q) = nodes_alone told told' u.found after lists answers.each taken in (
+          let (p, q) = nodes_alone told told' u.found after lists answers.3 taken in (
             omega (arith, p, again_weighs (pages_by laws (side peer) root is_there) (Nodes m) (λ xs. 0) left again (λ xs. refl) asks),
             omega (
               arith,
@@ -247,23 +246,23 @@ module _ {K V H : Type 0} (laws : Laws K V H) (o : IsTotalOrder laws.cmp) (eqv :
               again_weighs (nodes_by laws (side peer) root is_there) (Nodes m) (λ xs. length xs) left again (λ xs. refl) asks,
             ),
           )
-      by (RowsAt ws) (RowsAt xs) pages alike is (left, (told, read, some, are, taken), asks) = (
+      by (RowsAt ws) (RowsAt xs) pages alike is (left, (told, read, some, are, any, taken), asks) = (
         omega (arith, ap pages_found taken, again_weighs (pages_by laws (side peer) root is_there) RowsAt (λ ys. 0) left again (λ ys. refl) asks),
         omega (arith, ap nodes_found taken, again_weighs (nodes_by laws (side peer) root is_there) RowsAt (λ ys. 0) left again (λ ys. refl) asks),
       )
-      by (RowsIn gs) (RowsIn hs) pages alike is (left, (told, behind, rest, read, some, are, up, are_behind, is_left, taken), asks) = (
+      by (RowsIn gs) (RowsIn hs) pages alike is (left, (behind, rest, is_left, (told, read, some, are, up, (are_behind, taken))), asks) = (
         omega (arith, ap pages_found taken, again_weighs (pages_by laws (side peer) root is_there) RowsIn (λ ys. 0) left again (λ ys. refl) asks),
         omega (arith, ap nodes_found taken, again_weighs (nodes_by laws (side peer) root is_there) RowsIn (λ ys. 0) left again (λ ys. refl) asks),
       )
       by asked question pages alike is taken = absurd alike
 
   -- so is an exchange
-  pub exchange_pays : (digest_of : K → List ℕ) (before : Underway K V) (question : Question K) (reply : List ℕ) (next : Next K V) → IsSteadyCatchUp laws (side peer) root before
+  pub exchange_pays : (before : Underway K V) (question : Question K) (reply : List ℕ) (next : Next K V) → IsSteadyCatchUp laws (side peer) root before
       → SameQuestion laws.cmp encoding before.asked question
-      → IsReply laws.cmp laws.bytes_of encoding values digest_of n peer.rows peer.tree question reply → (takes : IsNext laws n encoding values local before reply next)
+      → IsReply laws n encoding values peer.rows peer.tree question reply → (takes : IsNext laws n encoding values local before reply next)
       → PayFor laws (side peer) root is_there (entries_taken laws n encoding values local outlines_kind before.asked reply before.found takes.0 takes.1 takes.2)
       (entries_taken laws n encoding values local nodes_kind before.asked reply before.found takes.0 takes.1 takes.2) before next
-  exchange_pays digest_of before question reply next s alike is (found, again, taken, goes) =
-      let (p, q) = reply_pays digest_of before question reply found again s alike is taken in
+  exchange_pays before question reply next s alike is (found, again, taken, goes) =
+      let (p, q) = reply_pays before question reply found again s alike is taken in
       next_pays laws (side peer) root is_there encoding (entries_taken laws n encoding values local outlines_kind before.asked reply before.found found again taken)
       (entries_taken laws n encoding values local nodes_kind before.asked reply before.found found again taken) before again before.rounds found next p q goes

@@ -15,14 +15,12 @@ use Rattle.merkle_diff.proofs.Each.{each-both, each-mapped, each-unmapped}
 use Rattle.merkle_replica.specs.Contents.{Contents, Side, side, tree_map}
 use Rattle.merkle_replica.specs.Laws.{Laws}
 use Rattle.merkle_tree_theory.specs.Tree.{Tree}
-use Rattle.merkle_wire.specs.Asking.{IsTakenFrom, all_whole}
-use Rattle.merkle_wire.specs.Found.{Found}
+use Rattle.merkle_wire.specs.Underway.{IsTakenFrom, Found, Underway}
 use Rattle.merkle_wire.specs.Gaps.{owned_gap}
 use Rattle.merkle_wire.specs.Next.{AsksOrGoesOn, IsNext}
 use Rattle.merkle_wire.specs.Outlines.{Outline, rows_told, digests_told, page_told, IsTold}
 use Rattle.merkle_wire.specs.Replies.{IsReply, items_over}
-use Rattle.merkle_wire.specs.Taking.{AreTaken, IsRootTaken, IsPageTaken, has_digest, is_digest, new_keys}
-use Rattle.merkle_wire.specs.Underway.{AsksAgain, HasTakenReply, Underway}
+use Rattle.merkle_wire.specs.Taking.{AreTaken, IsRootTaken, IsPageTaken, has_digest, is_digest, new_keys, AsksAgain, HasTakenReply}
 use Rattle.merkle_wire.specs.declared.catching_up.Next.{Next}
 use Rattle.merkle_wire.specs.declared.catching_up.Next.TheVariants.{Ask, Came}
 use Rattle.merkle_wire.specs.declared.gaps.OwnedGap.{OwnedGap}
@@ -40,8 +38,9 @@ use Rattle.merkle_wire.proofs.TellingQuestions.{SameGapTold, SameQuestion}
 use Rattle.merkle_wire.proofs.TellingReplies.{SameOutline}
 use Rattle.merkle_wire.proofs.Times.{total-append, total-less, total-mapped, total-plus}
 use Rattle.merkle_wire.proofs.TimesTaken.{outlines_times, parts_times, root_times}
-use Rattle.merkle_wire.specs.Cost.{entries_taken}
 use Rattle.merkle_wire.proofs.Steady.{times_asked, times_at, times_in, times_over, total}
+use Rattle.merkle_wire.specs.SessionLaws.{entries_taken}
+use Rattle.merkle_wire.proofs.Lacking.{all_whole}
 
 -- the keys at which a reply told values
 module _ {K V H : Type 0} (laws : Laws K V H) (peer : Side K V H) (root : Tree K (List ℕ)) (k : K) where
@@ -156,43 +155,43 @@ module _ {K V H : Type 0} (laws : Laws K V H) (o : IsTotalOrder laws.cmp) (eqv :
       omega (arith, ap (total (λ r. times_at laws.cmp k r.0)) is, total-append (λ (r : K × V). times_at laws.cmp k r.0) before.rows new)
 
   -- a key that was told is told no more
-  pub reply_at : (k : K) (digest_of : K → List ℕ) (asked question : Question K) (reply : List ℕ) (before after : Found K V) (again : Option (Question K))
+  pub reply_at : (k : K) (asked question : Question K) (reply : List ℕ) (before after : Found K V) (again : Option (Question K))
       → SameQuestion laws.cmp encoding asked question
-      → IsReply laws.cmp laws.bytes_of encoding values digest_of n peer.rows peer.tree question reply → (taken : HasTakenReply laws n encoding values local asked reply before after again)
+      → IsReply laws n encoding values peer.rows peer.tree question reply → (taken : HasTakenReply laws n encoding values local asked reply before after again)
       → told_at laws n encoding values local k asked reply before after again
       taken + (again_of (asked_at laws (side peer) root k) again + left_at laws (side peer) root k after) ≤ asked_at laws (side peer) root k asked + left_at laws (side peer) root k before
-  reply_at k digest_of (Root a) (Root b) reply before after again alike is (count, digest, read, taken, none) =
+  reply_at k (Root a) (Root b) reply before after again alike is (count, digest, read, taken, none) =
       omega (
         arith,
         root_times laws o local (side peer) root peer.tree.root sides.same n k digest before after taken,
         rows_more (Root a) reply before after again k (count, digest, read, taken, none),
         ap (again_of (asked_at laws (side peer) root k)) none,
       )
-  reply_at k digest_of (Outlines m gs) (Outlines m' hs) reply before after again alike (told', answers, sent) (left, has, asks) =
+  reply_at k (Outlines m gs) (Outlines m' hs) reply before after again alike (told', answers, sent) (left, has, asks) =
       let lists = lists_alike laws o eqv encoding values tell n local peer root sides small true outlines_kind gs.items hs.items left reply before after told' alike answers sent has in
       let (told, read, some, are, lies, taken) = has in
       let inside : OwnedGap K → ℕ = λ g. times_in laws.cmp k (owned_gap g) in
       omega (
         arith,
-        outlines_times laws o local (side peer) root peer.tree.root sides.same n k (SameGapTold laws.cmp encoding) (λ g h s. s.0) true told told' before after lists answers.each lies taken,
+        outlines_times laws o local (side peer) root peer.tree.root sides.same n k (SameGapTold laws.cmp encoding) (λ g h s. s.0) true told told' before after lists answers.3 lies taken,
         rows_more (Outlines m gs) reply before after again k (left, has, asks),
         ap (total inside) are,
         total-append inside (map (λ t. t.0) told) left,
         again_weighs (asked_at laws (side peer) root k) (Outlines m) (total inside) left again (λ xs. refl) asks,
       )
-  reply_at k digest_of (Nodes m gs) (Nodes m' hs) reply before after again alike (told', answers, sent) (left, has, asks) =
+  reply_at k (Nodes m gs) (Nodes m' hs) reply before after again alike (told', answers, sent) (left, has, asks) =
       let lists = lists_alike laws o eqv encoding values tell n local peer root sides small false nodes_kind gs.items hs.items left reply before after told' alike answers sent has in
       let (told, read, some, are, lies, taken) = has in
       let about : OwnedGap K → ℕ = λ g. times_over laws (side peer) root k (owned_gap g) in
       omega (
         arith,
-        outlines_times laws o local (side peer) root peer.tree.root sides.same n k (SameGapTold laws.cmp encoding) (λ g h s. s.0) false told told' before after lists answers.each lies taken,
+        outlines_times laws o local (side peer) root peer.tree.root sides.same n k (SameGapTold laws.cmp encoding) (λ g h s. s.0) false told told' before after lists answers.3 lies taken,
         rows_more (Nodes m gs) reply before after again k (left, has, asks),
         ap (total about) are,
         total-append about (map (λ t. t.0) told) left,
         again_weighs (asked_at laws (side peer) root k) (Nodes m) (total about) left again (λ xs. refl) asks,
       )
-  reply_at k digest_of (RowsAt ws) (RowsAt xs) reply before after again alike is (left, (told, read, some, are, taken), asks) =
+  reply_at k (RowsAt ws) (RowsAt xs) reply before after again alike is (left, (told, read, some, are, any, taken), asks) =
       let at : Wanted K → ℕ = λ w. times_at laws.cmp k w.key in
       omega (
         arith,
@@ -201,7 +200,7 @@ module _ {K V H : Type 0} (laws : Laws K V H) (o : IsTotalOrder laws.cmp) (eqv :
         total-append at (map (λ t. t.0) told) left,
         again_weighs (asked_at laws (side peer) root k) RowsAt (total at) left again (λ ys. refl) asks,
       )
-  reply_at k digest_of (RowsIn gs) (RowsIn hs) reply before after again alike is (left, (told, behind, rest, read, some, are, up, are_behind, is_left, taken), asks) =
+  reply_at k (RowsIn gs) (RowsIn hs) reply before after again alike is (left, (behind, rest, is_left, (told, read, some, are, up, (are_behind, taken))), asks) =
       let inside : OwnedGap K → ℕ = λ g. times_in laws.cmp k (owned_gap g) in
       omega (
         arith,
@@ -213,7 +212,7 @@ module _ {K V H : Type 0} (laws : Laws K V H) (o : IsTotalOrder laws.cmp) (eqv :
         parts_times laws o local (side peer) root peer.tree.root sides.same n k told behind up are_behind,
         again_weighs (asked_at laws (side peer) root k) RowsIn (total inside) left again (λ ys. refl) asks,
       )
-  reply_at k digest_of asked question reply before after again alike is taken = absurd alike
+  reply_at k asked question reply before after again alike is taken = absurd alike
 
   lacked_there : (m : List (K × List ℕ)) (k : K) (d : List ℕ) → get laws.cmp m k ≡ Some d → not (has_digest laws local k d) ≡ true
       → AnyByRecursion (λ p. Same laws.cmp k p.0) (filter (λ p. not (has_digest laws local p.0 p.1)) m)
@@ -281,13 +280,13 @@ module _ {K V H : Type 0} (laws : Laws K V H) (o : IsTotalOrder laws.cmp) (eqv :
   again_keys left again a (inr (rest, is, some, e)) = subst (AsksLackedAgain laws local (side peer)) (sym e) (subst (AllByRecursion (λ w. Lacked w.key)) (sym is) a)
 
   -- what is taken of a reply keeps to such keys, and so do those at which it told values
-  reply_wants : (digest_of : K → List ℕ) (asked question : Question K) (reply : List ℕ) (before after : Found K V) (again : Option (Question K)) → Wanting before
+  reply_wants : (asked question : Question K) (reply : List ℕ) (before after : Found K V) (again : Option (Question K)) → Wanting before
       → AsksLacked laws local (side peer) asked → SameQuestion laws.cmp encoding asked question
-      → IsReply laws.cmp laws.bytes_of encoding values digest_of n peer.rows peer.tree question reply → (taken : HasTakenReply laws n encoding values local asked reply before after again)
+      → IsReply laws n encoding values peer.rows peer.tree question reply → (taken : HasTakenReply laws n encoding values local asked reply before after again)
       → Wanting after × AsksLackedAgain laws local (side peer) again
       × (entries_taken laws n encoding values local rows_at_kind asked reply before after again taken ≤ total
       (λ p. told_at laws n encoding values local p.0 asked reply before after again taken) (lacked laws local (side peer)))
-  reply_wants digest_of (Root a) (Root b) reply before after again w l alike is (count, digest, read, taken, none) =
+  reply_wants (Root a) (Root b) reply before after again w l alike is (count, digest, read, taken, none) =
       (by digest taken, subst (AsksLackedAgain laws local (side peer)) (sym none) tt, omega arith)
     where
       by : (d : Option (List ℕ)) → IsRootTaken laws local d before after → Wanting after
@@ -295,15 +294,15 @@ module _ {K V H : Type 0} (laws : Laws K V H) (o : IsTotalOrder laws.cmp) (eqv :
       by (Some d) (inl (own, e)) = subst Wanting (sym e) w
       by (Some d) (inr (lacks, inl e)) = subst Wanting (sym e) w
       by (Some d) (inr (lacks, inr e)) = subst Wanting (sym e) w
-  reply_wants digest_of (Outlines m gs) (Outlines m' hs) reply before after again w l alike (told', answers, sent) (left, has, asks) =
+  reply_wants (Outlines m gs) (Outlines m' hs) reply before after again w l alike (told', answers, sent) (left, has, asks) =
       let lists = lists_alike laws o eqv encoding values tell n local peer root sides small true outlines_kind gs.items hs.items left reply before after told' alike answers sent has in
       let (told, read, some, are, lies, taken) = has in
-      (outlines_want true told told' before after lists answers.each taken w, again_all (Outlines m) left again (λ xs. tt) asks, omega arith)
-  reply_wants digest_of (Nodes m gs) (Nodes m' hs) reply before after again w l alike (told', answers, sent) (left, has, asks) =
+      (outlines_want true told told' before after lists answers.3 taken w, again_all (Outlines m) left again (λ xs. tt) asks, omega arith)
+  reply_wants (Nodes m gs) (Nodes m' hs) reply before after again w l alike (told', answers, sent) (left, has, asks) =
       let lists = lists_alike laws o eqv encoding values tell n local peer root sides small false nodes_kind gs.items hs.items left reply before after told' alike answers sent has in
       let (told, read, some, are, lies, taken) = has in
-      (outlines_want false told told' before after lists answers.each taken w, again_all (Nodes m) left again (λ xs. tt) asks, omega arith)
-  reply_wants digest_of (RowsAt ws) (RowsAt xs) reply before after again w l alike is (left, (told, read, some, are, taken), asks) =
+      (outlines_want false told told' before after lists answers.3 taken w, again_all (Nodes m) left again (λ xs. tt) asks, omega arith)
+  reply_wants (RowsAt ws) (RowsAt xs) reply before after again w l alike is (left, (told, read, some, are, any, taken), asks) =
       let Is : Wanted K → Type 0 = λ x. Lacked x.key in
       let all = subst (AllByRecursion Is) are l in
       let keys = map (λ (t : Wanted K × Option V). t.0) told in (
@@ -311,26 +310,26 @@ module _ {K V H : Type 0} (laws : Laws K V H) (o : IsTotalOrder laws.cmp) (eqv :
         again_keys left again (each-behind Is keys left all) asks,
         omega (arith, length-map told (λ t. t.0), keys_at laws local (side peer) o keys (each-before Is keys left all)),
       )
-  reply_wants digest_of (RowsIn gs) (RowsIn hs) reply before after again w l alike is (left, (told, behind, rest, read, some, are, up, are_behind, is_left, taken), asks) =
+  reply_wants (RowsIn gs) (RowsIn hs) reply before after again w l alike is (left, (behind, rest, is_left, (told, read, some, are, up, (are_behind, taken))), asks) =
       (subst Wanting (sym taken) w, again_all RowsIn left again (λ xs. tt) asks, omega arith)
-  reply_wants digest_of asked question reply before after again w l alike is taken = absurd alike
+  reply_wants asked question reply before after again w l alike is taken = absurd alike
 
   -- an exchange
-  pub exchange_pays_for_keys : (digest_of : K → List ℕ) (before : Underway K V) (question : Question K) (reply : List ℕ) (next : Next K V) → Wanting before.found
+  pub exchange_pays_for_keys : (before : Underway K V) (question : Question K) (reply : List ℕ) (next : Next K V) → Wanting before.found
       → AsksLacked laws local (side peer) before.asked → SameQuestion laws.cmp encoding before.asked question
-      → IsReply laws.cmp laws.bytes_of encoding values digest_of n peer.rows peer.tree question reply → (takes : IsNext laws n encoding values local before reply next)
+      → IsReply laws n encoding values peer.rows peer.tree question reply → (takes : IsNext laws n encoding values local before reply next)
       → PayForKeys laws local (side peer) root (entries_taken laws n encoding values local rows_at_kind before.asked reply before.found takes.0 takes.1 takes.2) before next
-  exchange_pays_for_keys digest_of before question reply next w l alike is (found, again, taken, goes) = by next goes
+  exchange_pays_for_keys before question reply next w l alike is (found, again, taken, goes) = by next goes
     where
       wants : Wanting found × AsksLackedAgain laws local (side peer) again
           × (entries_taken laws n encoding values local rows_at_kind before.asked reply before.found found again taken ≤ total
           (λ p. told_at laws n encoding values local p.0 before.asked reply before.found found again taken) (lacked laws local (side peer)))
-      wants = reply_wants digest_of before.asked question reply before.found found again w l alike is taken
+      wants = reply_wants before.asked question reply before.found found again w l alike is taken
 
       at : (p : K × List ℕ) → told_at laws n encoding values local p.0 before.asked reply before.found found again
           taken + (again_of (asked_at laws (side peer) root p.0) again + left_at laws (side peer) root p.0 found) ≤ asked_at laws
           (side peer) root p.0 before.asked + left_at laws (side peer) root p.0 before.found
-      at p = reply_at p.0 digest_of before.asked question reply before.found found again alike is taken
+      at p = reply_at p.0 before.asked question reply before.found found again alike is taken
 
       by : (next : Next K V) → AsksOrGoesOn laws.cmp encoding again before.rounds found next
           → PayForKeys laws local (side peer) root (entries_taken laws n encoding values local rows_at_kind before.asked reply before.found found again taken) before next

@@ -6,12 +6,11 @@ use Rattle.merkle_replica.specs.Contents.{Side}
 use Rattle.merkle_replica.specs.Laws.{Laws}
 use Rattle.merkle_tree_theory.specs.Gap.{Gap}
 use Rattle.merkle_tree_theory.specs.Tree.{Tree}
-use Rattle.merkle_wire.specs.Asking.{IsTakenFrom, all_whole}
-use Rattle.merkle_wire.specs.Cost.{lacked_of_tree}
-use Rattle.merkle_wire.specs.Found.{Found}
+use Rattle.merkle_wire.specs.Underway.{IsTakenFrom, Found, Underway}
+use Rattle.merkle_wire.specs.SessionLaws.{lacked_of_tree}
 use Rattle.merkle_wire.specs.Gaps.{owned_gap}
 use Rattle.merkle_wire.specs.Next.{AsksOrGoesOn}
-use Rattle.merkle_wire.specs.Underway.{AsksAgain, Underway}
+use Rattle.merkle_wire.specs.Taking.{AsksAgain}
 use Rattle.merkle_wire.specs.declared.catching_up.Next.{Next}
 use Rattle.merkle_wire.specs.declared.catching_up.Next.TheVariants.{Ask, Came}
 use Rattle.merkle_wire.specs.declared.question.Question.{Question}
@@ -19,6 +18,7 @@ use Rattle.merkle_wire.specs.declared.question.Question.TheVariants.{Root, Outli
 use Rattle.merkle_wire.proofs.PagesLacked.{lacked_over}
 use Rattle.merkle_wire.proofs.Times.{total-mapped}
 use Rattle.merkle_wire.proofs.Steady.{total}
+use Rattle.merkle_wire.proofs.Lacking.{all_whole}
 
 -- what is asked again weighs as much as what is left
 abbrev pub again_of : {K : Type 0} → (Question K → ℕ) → Option (Question K) → ℕ

@@ -1,10 +1,7 @@
 -- What a catch-up under way covers of what a side lacks, and that its first question tells own settings.
-use Rattle.std.specs.Prelude.{◌≡◌, ℕ, ◌<◌, List, [], ◌∷◌, ⊤, ◌⊎◌}
-use Rattle.std.specs.Global.{Vec}
+use Rattle.std.specs.Prelude.{◌≡◌, ℕ, List, ⊤, ◌⊎◌, true, Some}
 use Rattle.std.specs.List.{AllByRecursion}
-use Rattle.key_order.specs.Join.{IsJoin}
 use Rattle.key_order.specs.Order.{AnyByRecursion, Same}
-use Rattle.key_order.specs.Map.{IsMap, get}
 use Rattle.merkle_replica.specs.CatchUp.{IsLacked}
 use Rattle.merkle_replica.specs.Contents.{Side, side, tree_map}
 use Rattle.merkle_replica.specs.Faithful.{HasSmallMap}
@@ -13,24 +10,24 @@ use Rattle.merkle_tree_theory.specs.Canonical.{IsTreeOf}
 use Rattle.merkle_tree_theory.specs.Gap.{Gap, IsInGap}
 use Rattle.merkle_tree_theory.specs.Outline.{outline_over}
 use Rattle.merkle_tree_theory.specs.Tree.{Tree}
-use Rattle.merkle_wire.specs.Found.{Found}
+use Rattle.merkle_wire.specs.Underway.{Found, Underway}
 use Rattle.merkle_wire.specs.Gaps.{owned_gap}
 use Rattle.merkle_wire.specs.Outlines.{nodes_among, keys_among}
-use Rattle.merkle_wire.specs.Questions.{question_bytes, IfRoot}
+use Rattle.merkle_wire.specs.Questions.{question_bytes}
 use Rattle.merkle_wire.specs.Settings.{IsDigested}
-use Rattle.merkle_wire.specs.Underway.{Underway}
 use Rattle.merkle_wire.specs.declared.catching_up.Next.{Next}
 use Rattle.merkle_wire.specs.declared.catching_up.Next.TheVariants.{Ask, Came}
 use Rattle.merkle_wire.specs.declared.question.Question.{Question}
 use Rattle.merkle_wire.specs.declared.question.Question.TheVariants.{Root, Outlines, Nodes, RowsAt, RowsIn}
-use Rattle.merkle_wire.specs.Coming.{IsInOneOf}
 use Rattle.merkle_wire.specs.Sessions.{IsNewRow, AreBrought, IsFaithfulSession}
+use Rattle.key_order.specs.Map.{get}
+use Rattle.merkle_wire.proofs.Lacking.{IsInOneOf}
 
 module _ {K V H : Type 0} (laws : Laws K V H) (n : ℕ) (side : Side K V H) where
   -- a question for the root tells the settings of the side, whose digests of values have n bytes
   abbrev pub TellsOwn : Question K → Type 0
-  TellsOwn = IfRoot
-      (λ s. (s.level_base ≡ side.base) × (s.page_format ≡ side.format) × (s.digest_bytes ≡ n) × IsDigested (laws.key_digest side.hasher) s.sample)
+  TellsOwn (Root s) = (s.level_base ≡ side.base) × (s.page_format ≡ side.format) × (s.digest_bytes ≡ n) × IsDigested (laws.key_digest side.hasher) s.sample
+  TellsOwn _ = ⊤
 
 module _ {K V H : Type 0} (laws : Laws K V H) (peer : Side K V H) (root : Tree K (List ℕ)) where
   -- the key is that of a node of the peer's page over the gap
@@ -50,6 +47,11 @@ module _ {K V H : Type 0} (laws : Laws K V H) (peer : Side K V H) (root : Tree K
   IsAmong k f =
       AnyByRecursion (IsInGap laws.cmp k) f.below ⊎ (AnyByRecursion (IsNodeOver k) f.nodes
       ⊎ (AnyByRecursion (Same laws.cmp k) f.wanted ⊎ (AnyByRecursion (IsInGap laws.cmp k) f.whole ⊎ AnyByRecursion (λ r. Same laws.cmp k r.0) f.rows)))
+
+module _ {K V H : Type 0} (laws : Laws K V H) (local peer : Side K V H) where
+  -- the row is one of the peer's: an equal key, with an equal value
+  abbrev pub IsRowOfPeer : K × V → Type 0
+  IsRowOfPeer row = (v : V) × (get laws.cmp peer.rows row.0 ≡ Some v) × (laws.eq row.1 v ≡ true)
 
 module _ {K V H : Type 0} (laws : Laws K V H) (local peer : Side K V H) (root : Tree K (List ℕ)) where
   -- each row that was found is new; and while digests are faithful, each key that local lacks is asked about or among what was found

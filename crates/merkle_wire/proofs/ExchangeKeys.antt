@@ -15,17 +15,15 @@ use Rattle.merkle_replica.specs.Contents.{Contents, Side, side, tree_map}
 use Rattle.merkle_replica.specs.Laws.{Laws}
 use Rattle.merkle_replica.proofs.Bounds.{get_digests}
 use Rattle.merkle_tree_theory.specs.Tree.{Tree}
-use Rattle.merkle_wire.specs.Asking.{IsTakenFrom, all_whole}
-use Rattle.merkle_wire.specs.Found.{Found, nothing}
+use Rattle.merkle_wire.specs.Underway.{IsTakenFrom, Found, nothing, Underway}
 use Rattle.merkle_wire.specs.Gaps.{HasKeyBounds, owned_gap}
 use Rattle.merkle_wire.specs.Messages.{front}
 use Rattle.merkle_wire.specs.Next.{AsksOrGoesOn, IsNext, IfAsks}
 use Rattle.merkle_wire.specs.Outlines.{Outline, IsTold, nodes_among}
 use Rattle.merkle_wire.specs.Questions.{AsksNothing, IsQuestion, question_bytes}
 use Rattle.merkle_wire.specs.Replies.{TellsFirst, IsPartOf, IsReply, Part, items_over, outline_over_bytes, part_in_bytes}
-use Rattle.merkle_wire.specs.Sessions.{IsRowOfPeer, CanBeTold, IsKeyOf}
-use Rattle.merkle_wire.specs.Taking.{new_rows, value_row}
-use Rattle.merkle_wire.specs.Underway.{AsksAgain, HasOutlines, HasParts, HasTakenReply, Underway}
+use Rattle.merkle_wire.specs.Sessions.{CanBeTold, IsKeyOf}
+use Rattle.merkle_wire.specs.Taking.{value_row, AddsRows, AreTaken, PartsCome, AsksAgain, HasTakenReply}
 use Rattle.merkle_wire.specs.declared.catching_up.Next.{Next}
 use Rattle.merkle_wire.specs.declared.catching_up.Next.TheVariants.{Ask, Came}
 use Rattle.merkle_wire.specs.declared.gaps.OwnedGap.{OwnedGap}
@@ -41,6 +39,9 @@ use Rattle.merkle_wire.proofs.StepCovers.{parts_theirs}
 use Rattle.merkle_wire.proofs.TellingQuestions.{SameGapTold, SameQuestion}
 use Rattle.merkle_wire.proofs.TellingReplies.{outlines_tell, parts_tell}
 use Rattle.merkle_wire.proofs.Steady.{AreKeysOf, HasKeysOfSides, IsKeyOfSides}
+use Rattle.merkle_wire.specs.Coming.{OutlinesCome}
+use Rattle.merkle_wire.proofs.Covering.{IsRowOfPeer}
+use Rattle.merkle_wire.proofs.Lacking.{all_whole, new_rows}
 
 -- a key equal to one of a side's is one of it
 module _ {K V H : Type 0} (laws : Laws K V H) (o : IsTotalOrder laws.cmp) (local peer : Side K V H) where
@@ -132,30 +133,30 @@ module _ {K V H : Type 0} (laws : Laws K V H) (o : IsTotalOrder laws.cmp) (eqv :
       (before after : Found K V) (again : Option (Question K)) (told' : List (OwnedGap K × Outline K V))
       → ((xs : Vec (OwnedGap K)) → Gaps xs.items → IsQuestion IsKey (ask xs)) → Gaps gaps → Keys before → AllZip (SameGapTold laws.cmp encoding) gaps gaps'
       → TellsFirst (λ g. IsTold laws.cmp peer.rows with_pages (items_over laws.cmp laws.bytes_of peer.tree g)) gaps' told' → reply ≡ front kind ++ flat_map (outline_over_bytes encoding values) told'
-      → HasOutlines laws n encoding values local (front kind) gaps reply before after left → AsksAgain ask left again → IsAgain again × Keys after
+      → OutlinesCome laws.cmp encoding values n kind (λ told. AreTaken laws local told before after) gaps reply left → AsksAgain ask left again → IsAgain again × Keys after
   outlines_next with_pages kind ask gaps gaps' left reply before after again told' reads a keys alike answers sent (told, read, some, are, lies, taken) asks =
       let bytes = (join_tells (front kind) (front kind) (flat_map (outline_over_bytes encoding values) told) (flat_map (outline_over_bytes encoding values) told') refl (sym read ∙ sent)).1 in
-      let lists = outlines_tell laws.cmp laws.eq encoding values tell.keys tell.value (SameGapTold laws.cmp encoding) (λ g h e. e.1) n told told' left answers.left
+      let lists = outlines_tell laws.cmp laws.eq encoding values tell.keys tell.value (SameGapTold laws.cmp encoding) (λ g h e. e.1) n told told' left answers.0
       (same_begin laws o eqv encoding values tell n local peer root sides small
-      (SameGapTold laws.cmp encoding) gaps gaps' told told' left answers.left alike are answers.begins) (fits_read laws local n told before after lies taken)
-      (sent_fits laws o eqv encoding values tell n local peer root sides small with_pages told' answers.each) bytes in
+      (SameGapTold laws.cmp encoding) gaps gaps' told told' left answers.0 alike are answers.1) (fits_read laws local n told before after lies taken)
+      (sent_fits laws o eqv encoding values tell n local peer root sides small with_pages told' answers.3) bytes in
       let all = subst Gaps are a in (
         again_keys ask (λ g. HasKeyBounds IsKey (owned_gap g)) left again reads asks (each-behind (λ g. HasKeyBounds IsKey (owned_gap g)) (map (λ t. t.0) told) left all),
         outlines_keys laws o IsKey same local peer.rows (SameGapTold laws.cmp encoding) with_pages (λ g. items_over laws.cmp laws.bytes_of peer.tree g) nodes_keys told told' before after
-            (each-before (λ g. HasKeyBounds IsKey (owned_gap g)) (map (λ t. t.0) told) left all) lists answers.each taken keys,
+            (each-before (λ g. HasKeyBounds IsKey (owned_gap g)) (map (λ t. t.0) told) left all) lists answers.3 taken keys,
       )
 
   parts_next : (gaps gaps' left : List (OwnedGap K)) (reply : List ℕ) (before after : Found K V) (again : Option (Question K)) (told' : List (OwnedGap K × Part K V))
       → Gaps gaps → Keys before → AllZip (SameGapTold laws.cmp encoding) gaps gaps'
       → TellsFirst (IsPartOf laws.cmp peer.rows) gaps' told' → reply ≡ front rows_in_kind ++ flat_map (part_in_bytes encoding values) told'
-      → HasParts laws n encoding values local gaps reply before after left → AsksAgain RowsIn left again → IsAgain again × Keys after
-  parts_next gaps gaps' left reply before after again told' a keys alike answers sent (told, behind, rest, read, some, are, up, are_behind, is_left, taken) asks =
+      → PartsCome laws.cmp encoding values (λ rows. AddsRows laws local rows before after) gaps reply left → AsksAgain RowsIn left again → IsAgain again × Keys after
+  parts_next gaps gaps' left reply before after again told' a keys alike answers sent (behind, rest, is_left, (told, read, some, are, up, (are_behind, taken))) asks =
       let bytes = (join_tells (front rows_in_kind) (front rows_in_kind) (flat_map (part_in_bytes encoding values) told) (flat_map (part_in_bytes encoding values) told') refl (sym read ∙ sent)).1 in
-      let lists = parts_tell laws.cmp laws.eq encoding values tell.keys tell.value (SameGapTold laws.cmp encoding) (λ g h e. e.1) told told' rest answers.left
+      let lists = parts_tell laws.cmp laws.eq encoding values tell.keys tell.value (SameGapTold laws.cmp encoding) (λ g h e. e.1) told told' rest answers.0
       (same_begin laws o eqv encoding values tell n local peer root sides small
-      (SameGapTold laws.cmp encoding) gaps gaps' told told' rest answers.left alike are answers.begins) (each-all (λ t. ⊤) told (λ t. tt)) (each-all (λ t. ⊤) told' (λ t. tt)) bytes in
+      (SameGapTold laws.cmp encoding) gaps gaps' told told' rest answers.0 alike are answers.1) (each-all (λ t. ⊤) told (λ t. tt)) (each-all (λ t. ⊤) told' (λ t. tt)) bytes in
       let rows = flat_map (λ (t : OwnedGap K × Part K V). t.1.rows) told in
-      let theirs = parts_theirs laws o eqv local (side peer) root peer.tree.root sides (SameGapTold laws.cmp encoding) (λ g h e. e.0) told told' lists answers.each in
+      let theirs = parts_theirs laws o eqv local (side peer) root peer.tree.root sides (SameGapTold laws.cmp encoding) (λ g h e. e.0) told told' lists answers.3 in
       let row_keys = each-with (IsRowOfPeer laws local (side peer)) (λ r. IsKey r.0) rows (λ r (v, there, e). inr (v, there)) theirs in
       let all = subst Gaps are a in
       let In : OwnedGap K → Type 0 = λ g. HasKeyBounds IsKey (owned_gap g) in
@@ -164,23 +165,23 @@ module _ {K V H : Type 0} (laws : Laws K V H) (o : IsTotalOrder laws.cmp) (eqv :
         rows_keys laws o IsKey same local before after (new_rows laws local rows) taken keys,
       )
 
-  taken_next : (digest_of : K → List ℕ) (asked question : Question K) (reply : List ℕ) (before after : Found K V) (again : Option (Question K)) → IsQuestion IsKey asked
+  taken_next : (asked question : Question K) (reply : List ℕ) (before after : Found K V) (again : Option (Question K)) → IsQuestion IsKey asked
       → Keys before → SameQuestion laws.cmp encoding asked question
-      → IsReply laws.cmp laws.bytes_of encoding values digest_of n peer.rows peer.tree question reply
+      → IsReply laws n encoding values peer.rows peer.tree question reply
       → HasTakenReply laws n encoding values local asked reply before after again → IsAgain again × Keys after
-  taken_next digest_of (Root a) (Root b) reply before after again q keys alike is (count, digest, read, taken, none) =
+  taken_next (Root a) (Root b) reply before after again q keys alike is (count, digest, read, taken, none) =
       (subst IsAgain (sym none) tt, root_keys laws o IsKey same local digest before after taken keys)
-  taken_next digest_of (Outlines m gs) (Outlines m' hs) reply before after again q keys alike (told', answers, sent) (left, has, asks) =
+  taken_next (Outlines m gs) (Outlines m' hs) reply before after again q keys alike (told', answers, sent) (left, has, asks) =
       outlines_next _ outlines_kind (Outlines m) gs.items hs.items left reply before after again told' (λ xs a. (q.0, a)) q.1 keys alike answers sent has asks
-  taken_next digest_of (Nodes m gs) (Nodes m' hs) reply before after again q keys alike (told', answers, sent) (left, has, asks) =
+  taken_next (Nodes m gs) (Nodes m' hs) reply before after again q keys alike (told', answers, sent) (left, has, asks) =
       outlines_next _ nodes_kind (Nodes m) gs.items hs.items left reply before after again told' (λ xs a. (q.0, a)) q.1 keys alike answers sent has asks
-  taken_next digest_of (RowsAt ws) (RowsAt xs) reply before after again q keys alike is (left, (told, read, some, are, taken), asks) = (
+  taken_next (RowsAt ws) (RowsAt xs) reply before after again q keys alike is (left, (told, read, some, are, any, taken), asks) = (
     again_keys RowsAt (λ w. IsKey w.key) left again (λ ys a. a) asks (each-behind (λ w. IsKey w.key) (map (λ t. t.0) told) left (subst (AllByRecursion (λ w. IsKey w.key)) are q)),
     rows_keys laws o IsKey same local before after (new_rows laws local (flat_map value_row told)) taken keys,
   )
-  taken_next digest_of (RowsIn gs) (RowsIn hs) reply before after again q keys alike (told', answers, sent) (left, has, asks) =
+  taken_next (RowsIn gs) (RowsIn hs) reply before after again q keys alike (told', answers, sent) (left, has, asks) =
       parts_next gs.items hs.items left reply before after again told' q keys alike answers sent has asks
-  taken_next digest_of asked question reply before after again q keys alike is taken = absurd alike
+  taken_next asked question reply before after again q keys alike is taken = absurd alike
 
   goes_on_keys : (again : Option (Question K)) (rounds : ℕ) (found : Found K V) (next : Next K V) → IsAgain again → Keys found
       → AsksOrGoesOn laws.cmp encoding again rounds found next → IfAsks (HasKeysOfSides laws local (side peer)) next
@@ -194,10 +195,10 @@ module _ {K V H : Type 0} (laws : Laws K V H) (o : IsTotalOrder laws.cmp) (eqv :
   goes_on_keys (Some question) rounds found (Ask session message) a keys (is, e) = subst (HasKeysOfSides laws local (side peer)) (sym e) (record { asked = a; found = keys })
 
   -- what comes next has keys of the two sides alone
-  pub next_keys : (digest_of : K → List ℕ) (before : Underway K V) (question : Question K) (reply : List ℕ) (next : Next K V)
+  pub next_keys : (before : Underway K V) (question : Question K) (reply : List ℕ) (next : Next K V)
       → HasKeysOfSides laws local (side peer) before → SameQuestion laws.cmp encoding before.asked question
-      → IsReply laws.cmp laws.bytes_of encoding values digest_of n peer.rows peer.tree question reply → IsNext laws n encoding values local before reply next
+      → IsReply laws n encoding values peer.rows peer.tree question reply → IsNext laws n encoding values local before reply next
       → IfAsks (HasKeysOfSides laws local (side peer)) next
-  next_keys digest_of before question reply next keys alike is (found, again, taken, goes) =
-      let (a, f) = taken_next digest_of before.asked question reply before.found found again keys.asked keys.found alike is taken in
+  next_keys before question reply next keys alike is (found, again, taken, goes) =
+      let (a, f) = taken_next before.asked question reply before.found found again keys.asked keys.found alike is taken in
       goes_on_keys again before.rounds found next a f goes

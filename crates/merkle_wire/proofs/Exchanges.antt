@@ -20,14 +20,13 @@ use Rattle.merkle_replica.proofs.Rounds.{any-append}
 use Rattle.merkle_tree_theory.specs.Gap.{IsInGap}
 use Rattle.merkle_tree_theory.specs.Outline.{outline_over, whole_item}
 use Rattle.merkle_tree_theory.specs.Tree.{Tree}
-use Rattle.merkle_wire.specs.Found.{Found}
+use Rattle.merkle_wire.specs.Underway.{Found}
 use Rattle.merkle_wire.specs.Gaps.{owned_gap}
 use Rattle.merkle_wire.specs.Messages.{front}
 use Rattle.merkle_wire.specs.Outlines.{Outline, IsTold, nodes_among}
 use Rattle.merkle_wire.specs.Replies.{TellsFirst, Part, IsReply, IsPartOf, items_over, whole_digest, outline_over_bytes, part_in_bytes, value_at_bytes}
-use Rattle.merkle_wire.specs.Sessions.{IsFaithfulSession, IsRowOfPeer, IsNewRow}
-use Rattle.merkle_wire.specs.Taking.{IsRootTaken, new_rows, value_row}
-use Rattle.merkle_wire.specs.Underway.{AsksAgain, HasOutlines, HasValues, HasParts, HasTakenReply}
+use Rattle.merkle_wire.specs.Sessions.{IsFaithfulSession, IsNewRow}
+use Rattle.merkle_wire.specs.Taking.{IsRootTaken, value_row, AddsRows, AreTaken, PartsCome, ValuesCome, AsksAgain, HasTakenReply}
 use Rattle.merkle_wire.specs.declared.gaps.OwnedGap.{OwnedGap}
 use Rattle.merkle_wire.specs.declared.message.Kind.{Kind}
 use Rattle.merkle_wire.specs.declared.message.Kind.TheVariants.{Root as root_kind, Outlines as outlines_kind, Nodes as nodes_kind, RowsAt as rows_at_kind, RowsIn as rows_in_kind}
@@ -40,7 +39,9 @@ use Rattle.merkle_wire.proofs.PageCovers.{AreSides, IsAbout, nodes_peers}
 use Rattle.merkle_wire.proofs.StepCovers.{outlines_keep, outlines_new, outlines_cover, rows_keep, rows_among, values_theirs, values_cover, parts_theirs, parts_cover, root_covers, root_takes}
 use Rattle.merkle_wire.proofs.TellingQuestions.{SameGapTold, SameWanted, SameQuestion}
 use Rattle.merkle_wire.proofs.TellingReplies.{Fits, outlines_tell, parts_tell, values_tell}
-use Rattle.merkle_wire.proofs.Covering.{IsAmong, AsksAbout}
+use Rattle.merkle_wire.proofs.Covering.{IsAmong, AsksAbout, IsRowOfPeer}
+use Rattle.merkle_wire.specs.Coming.{OutlinesCome}
+use Rattle.merkle_wire.proofs.Lacking.{new_rows}
 
 -- bytes tell keys and values
 pub record Tell {K V H : Type 0} (laws : Laws K V H) (encoding : K → List ℕ) (values : V → List ℕ) : Type 0 where
@@ -134,17 +135,17 @@ module _ {K V H : Type 0} (laws : Laws K V H) (o : IsTotalOrder laws.cmp) (eqv :
   outlines_take : (with_pages : Bool) (kind : Kind) (gaps gaps' left : List (OwnedGap K)) (reply : List ℕ) (before after : Found K V)
       (told' : List (OwnedGap K × Outline K V)) → AllZip (SameGapTold laws.cmp encoding) gaps gaps'
       → TellsFirst (λ g. IsTold laws.cmp peer.rows with_pages (items_over laws.cmp laws.bytes_of peer.tree g)) gaps' told' → reply ≡ front kind ++ flat_map (outline_over_bytes encoding values) told'
-      → HasOutlines laws n encoding values local (front kind) gaps reply before after left → TakesList (About with_pages) gaps left before after
+      → OutlinesCome laws.cmp encoding values n kind (λ told. AreTaken laws local told before after) gaps reply left → TakesList (About with_pages) gaps left before after
   outlines_take with_pages kind gaps gaps' left reply before after told' same answers sent (told, read, some, are, lies, taken) =
       let bytes = (join_tells (front kind) (front kind) (flat_map (outline_over_bytes encoding values) told) (flat_map (outline_over_bytes encoding values) told') refl (sym read ∙ sent)).1 in
-      let alike = outlines_tell laws.cmp laws.eq encoding values tell.keys tell.value (SameGapTold laws.cmp encoding) (λ g h s. s.1) n told told' left answers.left
-      (same_begin (SameGapTold laws.cmp encoding) gaps gaps' told told' left answers.left same are answers.begins) (fits_read laws local n told before after lies taken)
-      (sent_fits with_pages told' answers.each) bytes in
+      let alike = outlines_tell laws.cmp laws.eq encoding values tell.keys tell.value (SameGapTold laws.cmp encoding) (λ g h s. s.1) n told told' left answers.0
+      (same_begin (SameGapTold laws.cmp encoding) gaps gaps' told told' left answers.0 same are answers.1) (fits_read laws local n told before after lies taken)
+      (sent_fits with_pages told' answers.3) bytes in
       record {
-        new = outlines_new laws o eqv local (side peer) root peer.tree.root sides (SameGapTold laws.cmp encoding) (λ g h s. s.0) with_pages told told' before after alike answers.each taken;
+        new = outlines_new laws o eqv local (side peer) root peer.tree.root sides (SameGapTold laws.cmp encoding) (λ g h s. s.0) with_pages told told' before after alike answers.3 taken;
         keeps = λ k. outlines_keep laws o eqv local (side peer) root peer.tree.root sides (SameGapTold laws.cmp encoding) (λ g h s. s.0) with_pages told before after k taken;
         covers = λ faith k l a. go k (λ b. outlines_cover laws o eqv local (side peer) root peer.tree.root sides (SameGapTold laws.cmp encoding)
-            (λ g h s. s.0) with_pages faith told told' before after k l alike answers.each taken b)
+            (λ g h s. s.0) with_pages faith told told' before after k l alike answers.3 taken b)
             (any-split (About with_pages k) (map (λ t. t.0) told) left (subst (AnyByRecursion (About with_pages k)) are a));
       }
     where
@@ -169,17 +170,17 @@ module _ {K V H : Type 0} (laws : Laws K V H) (o : IsTotalOrder laws.cmp) (eqv :
 
   values_take : (keys keys' left : List (Wanted K)) (reply : List ℕ) (before after : Found K V) (told' : List (Wanted K × Option V)) → AllZip (SameWanted laws.cmp encoding) keys keys'
       → TellsFirst (λ w value. value ≡ get laws.cmp peer.rows w.key) keys' told' → reply ≡ front rows_at_kind ++ flat_map (value_at_bytes values) told'
-      → HasValues laws n encoding values local keys reply before after left → TakesList At keys left before after
-  values_take keys keys' left reply before after told' same answers sent (told, read, some, are, taken) =
+      → ValuesCome values (λ rows. AddsRows laws local rows before after) keys reply left → TakesList At keys left before after
+  values_take keys keys' left reply before after told' same answers sent (told, read, some, are, any, taken) =
       let bytes = (join_tells (front rows_at_kind) (front rows_at_kind) (flat_map (value_at_bytes values) told) (flat_map (value_at_bytes values) told') refl (sym read ∙ sent)).1 in
-      let alike = values_tell laws.cmp laws.eq encoding values tell.keys tell.value (SameWanted laws.cmp encoding) told told' left answers.left
-      (same_begin (SameWanted laws.cmp encoding) keys keys' told told' left answers.left same are answers.begins) (each-all (λ t. ⊤) told (λ t. tt)) (each-all (λ t. ⊤) told' (λ t. tt)) bytes in
-      let theirs = values_theirs laws o eqv local (side peer) root peer.tree.root sides (SameWanted laws.cmp encoding) (λ w x s. s) told told' alike answers.each in
+      let alike = values_tell laws.cmp laws.eq encoding values tell.keys tell.value (SameWanted laws.cmp encoding) told told' left answers.0
+      (same_begin (SameWanted laws.cmp encoding) keys keys' told told' left answers.0 same are answers.1) (each-all (λ t. ⊤) told (λ t. tt)) (each-all (λ t. ⊤) told' (λ t. tt)) bytes in
+      let theirs = values_theirs laws o eqv local (side peer) root peer.tree.root sides (SameWanted laws.cmp encoding) (λ w x s. s) told told' alike answers.3 in
       record {
         new = added_new before after (flat_map value_row told) taken theirs;
         keeps = λ k. rows_keep laws o eqv local (side peer) root peer.tree.root sides before after (new_rows laws local (flat_map value_row told)) k taken;
         covers = λ faith k l a. go faith k (λ b. added_covers faith before after (flat_map value_row told) k l taken theirs
-            (values_cover laws o eqv local (side peer) root peer.tree.root sides (SameWanted laws.cmp encoding) (λ w x s. s) told told' k l alike answers.each b))
+            (values_cover laws o eqv local (side peer) root peer.tree.root sides (SameWanted laws.cmp encoding) (λ w x s. s) told told' k l alike answers.3 b))
             (any-split (At k) (map (λ t. t.0) told) left (subst (AnyByRecursion (At k)) are a));
       }
     where
@@ -193,18 +194,18 @@ module _ {K V H : Type 0} (laws : Laws K V H) (o : IsTotalOrder laws.cmp) (eqv :
 
   parts_take : (gaps gaps' left : List (OwnedGap K)) (reply : List ℕ) (before after : Found K V) (told' : List (OwnedGap K × Part K V)) → AllZip (SameGapTold laws.cmp encoding) gaps gaps'
       → TellsFirst (IsPartOf laws.cmp peer.rows) gaps' told' → reply ≡ front rows_in_kind ++ flat_map (part_in_bytes encoding values) told'
-      → HasParts laws n encoding values local gaps reply before after left → TakesList In gaps left before after
-  parts_take gaps gaps' left reply before after told' same answers sent (told, behind, rest, read, some, are, lies, are_behind, is_left, taken) =
+      → PartsCome laws.cmp encoding values (λ rows. AddsRows laws local rows before after) gaps reply left → TakesList In gaps left before after
+  parts_take gaps gaps' left reply before after told' same answers sent (behind, rest, is_left, (told, read, some, are, lies, (are_behind, taken))) =
       let bytes = (join_tells (front rows_in_kind) (front rows_in_kind) (flat_map (part_in_bytes encoding values) told) (flat_map (part_in_bytes encoding values) told') refl (sym read ∙ sent)).1 in
-      let alike = parts_tell laws.cmp laws.eq encoding values tell.keys tell.value (SameGapTold laws.cmp encoding) (λ g h s. s.1) told told' rest answers.left
-      (same_begin (SameGapTold laws.cmp encoding) gaps gaps' told told' rest answers.left same are answers.begins) (each-all (λ t. ⊤) told (λ t. tt)) (each-all (λ t. ⊤) told' (λ t. tt)) bytes in
+      let alike = parts_tell laws.cmp laws.eq encoding values tell.keys tell.value (SameGapTold laws.cmp encoding) (λ g h s. s.1) told told' rest answers.0
+      (same_begin (SameGapTold laws.cmp encoding) gaps gaps' told told' rest answers.0 same are answers.1) (each-all (λ t. ⊤) told (λ t. tt)) (each-all (λ t. ⊤) told' (λ t. tt)) bytes in
       let rows = flat_map (λ t. t.1.rows) told in
-      let theirs = parts_theirs laws o eqv local (side peer) root peer.tree.root sides (SameGapTold laws.cmp encoding) (λ g h s. s.0) told told' alike answers.each in
+      let theirs = parts_theirs laws o eqv local (side peer) root peer.tree.root sides (SameGapTold laws.cmp encoding) (λ g h s. s.0) told told' alike answers.3 in
       record {
         new = added_new before after rows taken theirs;
         keeps = λ k. rows_keep laws o eqv local (side peer) root peer.tree.root sides before after (new_rows laws local rows) k taken;
         covers = λ faith k l a. go k (λ b. added_covers faith before after rows k l taken theirs b)
-            (λ b. parts_cover laws o eqv local (side peer) root peer.tree.root sides (SameGapTold laws.cmp encoding) (λ g h s. s.0) told told' behind k l alike answers.each are_behind b)
+            (λ b. parts_cover laws o eqv local (side peer) root peer.tree.root sides (SameGapTold laws.cmp encoding) (λ g h s. s.0) told told' behind k l alike answers.3 are_behind b)
             (any-split (In k) (map (λ t. t.0) told) rest (subst (AnyByRecursion (In k)) are a));
       }
     where
@@ -234,10 +235,10 @@ module _ {K V H : Type 0} (laws : Laws K V H) (o : IsTotalOrder laws.cmp) (eqv :
       by (Some x) (Some y) e = let f : 1 ∷ x ≡ 1 ∷ y = e in let g : x ≡ y = cc in ap Some g
 
   -- a reply is taken
-  pub takes : (digest_of : K → List ℕ) (asked question : Question K) (reply : List ℕ) (before after : Found K V) (again : Option (Question K)) → SameQuestion laws.cmp encoding asked question
-      → IsReply laws.cmp laws.bytes_of encoding values digest_of n peer.rows peer.tree question reply
+  pub takes : (asked question : Question K) (reply : List ℕ) (before after : Found K V) (again : Option (Question K)) → SameQuestion laws.cmp encoding asked question
+      → IsReply laws n encoding values peer.rows peer.tree question reply
       → HasTakenReply laws n encoding values local asked reply before after again → Takes asked again before after
-  takes digest_of (Root s) (Root t) reply before after again same (settings, sent) (count, digest, read, taken, none) =
+  takes (Root s) (Root t) reply before after again same (settings, sent) (count, digest, read, taken, none) =
       let is = root_tells count (length peer.rows) digest (whole_digest (whole_item peer.tree.format laws.bytes_of peer.tree.root)) (sym read ∙ sent) in
       let (keeps, rows) = root_takes laws o eqv local (side peer) root peer.tree.root sides digest before after taken in
       record {
@@ -245,14 +246,14 @@ module _ {K V H : Type 0} (laws : Laws K V H) (o : IsTotalOrder laws.cmp) (eqv :
         keeps = keeps;
         covers = λ faith k l a. inr (root_covers laws o eqv local (side peer) root peer.tree.root sides faith before after k l (subst (λ d. IsRootTaken laws local d before after) is taken));
       }
-  takes digest_of (Outlines m gs) (Outlines m' hs) reply before after again same (told', answers, sent) (left, has, asks) =
+  takes (Outlines m gs) (Outlines m' hs) reply before after again same (told', answers, sent) (left, has, asks) =
       list_takes (About true) (Outlines m) gs left again before after (λ k xs a. a) (λ k xs a. a) asks
       (outlines_take true outlines_kind gs.items hs.items left reply before after told' same answers sent has)
-  takes digest_of (Nodes m gs) (Nodes m' hs) reply before after again same (told', answers, sent) (left, has, asks) =
+  takes (Nodes m gs) (Nodes m' hs) reply before after again same (told', answers, sent) (left, has, asks) =
       list_takes (About false) (Nodes m) gs left again before after (λ k xs a. a) (λ k xs a. a) asks
       (outlines_take false nodes_kind gs.items hs.items left reply before after told' same answers sent has)
-  takes digest_of (RowsAt ws) (RowsAt xs) reply before after again same (told', answers, sent) (left, has, asks) =
+  takes (RowsAt ws) (RowsAt xs) reply before after again same (told', answers, sent) (left, has, asks) =
       list_takes At RowsAt ws left again before after (λ k xs a. a) (λ k xs a. a) asks (values_take ws.items xs.items left reply before after told' same answers sent has)
-  takes digest_of (RowsIn gs) (RowsIn hs) reply before after again same (told', answers, sent) (left, has, asks) =
+  takes (RowsIn gs) (RowsIn hs) reply before after again same (told', answers, sent) (left, has, asks) =
       list_takes In RowsIn gs left again before after (λ k xs a. a) (λ k xs a. a) asks (parts_take gs.items hs.items left reply before after told' same answers sent has)
-  takes digest_of asked question reply before after again same is taken = absurd same
+  takes asked question reply before after again same is taken = absurd same

@@ -18,7 +18,7 @@ use Rattle.merkle_tree_theory.specs.Tree.{Tree, page, Row, high, node, nothing, 
 use Rattle.merkle_tree_theory.specs.declared.page_format.PageFormat.{PageFormat}
 use Rattle.merkle_tree_theory.proofs.StreamParts.{hash_length, digest_length}
 use Rattle.merkle_wire.specs.Coming.{IsPageDigest, LiesIn}
-use Rattle.merkle_wire.specs.Found.{Found}
+use Rattle.merkle_wire.specs.Underway.{Found}
 use Rattle.merkle_wire.specs.Gaps.{owned_gap}
 use Rattle.merkle_wire.specs.Outlines.{Outline, rows_told, digests_told, page_told, IsTold, nodes_among, keys_among, pages_beside}
 use Rattle.merkle_wire.specs.Taking.{AreNewGaps, IsPageTaken, AreTaken}

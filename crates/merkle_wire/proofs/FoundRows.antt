@@ -6,7 +6,7 @@ use Rattle.std.proofs.lemmas.Cmp.{tied_itself}
 use Rattle.std.specs.declared.cmp.Ordering.{Ordering}
 use Rattle.merkle_bytes.specs.Runs.{entries_bytes, row_behind, row_key, state_behind}
 use Rattle.merkle_bytes.proofs.Listed.{written_next}
-use Rattle.merkle_wire.specs.Told.{AddsRowAt}
+use Rattle.merkle_wire.specs.Steps.{AddsRowAt}
 use Rattle.merkle_wire.specs.declared.nodes.ToldRows.{ToldRows}
 use Rattle.merkle_wire.proofs.RowsMore.{rows_more}
 use Rattle.merkle_wire.specs.Outlines.{AreRowsAt}

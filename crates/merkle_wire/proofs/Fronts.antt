@@ -1,19 +1,18 @@
 -- The front of a message tells its kind, and a reply that is not read is none.
-use Rattle.std.proofs.Common.{◌≡◌, ◌≢◌, ℕ, ◌==◌, cond, List, ◌++◌, refl, sym, ap, ◌∙◌}
+use Rattle.std.proofs.Common.{◌≡◌, ℕ, ◌==◌, cond, List, ◌++◌, refl, sym, ap, ◌∙◌}
 use Rattle.merkle_bytes.specs.Refusals.{IsMalformed}
 use Rattle.merkle_bytes.specs.declared.error.ReadError.{ReadError}
 use Rattle.merkle_bytes.specs.declared.error.ReadError.TheVariants as read
-use Rattle.merkle_wire.specs.Faults.{IsRefusedFor, unread_reply}
+use Rattle.merkle_wire.specs.Faults.{IsRefusedFor, unread}
 use Rattle.merkle_wire.specs.Messages.{front, kind_byte}
 use Rattle.merkle_wire.specs.declared.message.Kind.{Kind}
 use Rattle.merkle_wire.specs.declared.message.Kind.TheVariants.{AskRoot, AskOutlines, AskNodes, AskRowsAt, AskRowsIn, Root, Outlines, Nodes, RowsAt, RowsIn, Refusal}
 use Rattle.merkle_wire.specs.declared.session_error.SessionError.{SessionError}
 use Rattle.merkle_wire.specs.declared.session_error.SessionError.TheVariants as session
 use Rattle.merkle_wire.proofs.NoSettings.{same_behind}
-use Rattle.merkle_wire.specs.Fit.{SaysSo}
 
 -- a reply that is not read is refused for a reason why it is malformed
-pub refused_unread : (reason : Type 0) (error : ReadError) → (IsMalformed error → reason) → IsRefusedFor reason (unread_reply error)
+pub refused_unread : (reason : Type 0) (error : ReadError) → (IsMalformed error → reason) → IsRefusedFor reason (unread session.Memory session.Malformed error)
 refused_unread reason read.Memory why = tt
 refused_unread reason (read.Unexpected offset expected) why = why tt
 
@@ -54,7 +53,3 @@ pub front_told : (a b : Kind) (r s : List ℕ) → front a ++ r ≡ front b ++ s
 front_told a b r s e =
     let both = same_behind 1 (kind_byte a) 1 (kind_byte b) r s e in
     (sym (kind_back a) ∙ ap kind_of both.0 ∙ kind_back b, both.1)
-
--- a reply that says nothing after its front says nothing
-pub says_not : (kind : Kind) (S : List ℕ → Type 0) (reply left : List ℕ) → reply ≡ front kind ++ left → ((all : List ℕ) → S all → left ≢ all) → ¬ SaysSo kind S reply
-says_not kind S reply left read none (all, says, e) = none all says (front_told kind kind left all (sym read ∙ e)).1

@@ -5,7 +5,7 @@ use Rattle.std.specs.Vec.{vec_len}
 use Rattle.std.proofs.lemmas.Bool.{eqb-true}
 use Rattle.std.proofs.lemmas.Bool.Decides.{nat_tests}
 use Rattle.std.proofs.lemmas.List.{take-append-drop}
-use Rattle.merkle_wire.specs.Underway.{AsksAgain}
+use Rattle.merkle_wire.specs.Taking.{AsksAgain}
 use Rattle.merkle_wire.specs.declared.question.Question.{Question}
 
 no_items : {X : Type 0} (xs : List X) → length xs ≡ 0 → xs ≡ []

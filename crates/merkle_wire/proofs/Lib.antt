@@ -67,3 +67,4 @@ pub mod CostKeys
 pub mod SteadyExchanges
 pub mod SteadySessions
 pub mod Since
+pub mod Lacking

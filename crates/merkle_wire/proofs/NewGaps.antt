@@ -6,10 +6,10 @@ use Rattle.merkle_bytes.specs.Options.{option_bytes}
 use Rattle.merkle_replica.specs.Contents.{Side}
 use Rattle.merkle_replica.specs.Laws.{Laws}
 use Rattle.merkle_tree_theory.specs.Gap.{Gap}
-use Rattle.merkle_wire.specs.Found.{Found}
+use Rattle.merkle_wire.specs.Underway.{Found}
 use Rattle.merkle_wire.specs.Outlines.{pages_bytes}
-use Rattle.merkle_wire.specs.Reads.{below_keys, digests_beside, AddsBelow, AddsGapsBeside}
-use Rattle.merkle_wire.specs.Taking.{AreNewGaps}
+use Rattle.merkle_wire.specs.Steps.{below_keys, digests_beside, AddsGaps}
+use Rattle.merkle_wire.specs.Taking.{AreNewGaps, IsNewGap}
 use Rattle.merkle_wire.specs.declared.wanted.Wanted.{Wanted}
 
 pub pages_more : (pages : List (Option (List ℕ))) (page : Option (List ℕ)) (begun old new : List ℕ) → begun ≡ pages_bytes pages ++ old → old ≡ option_bytes (λ d. d) page ++ new
@@ -36,7 +36,7 @@ module _ {K V H : Type 0} (laws : Laws K V H) (local : Side K V H) (gap : Gap K)
   gaps_none before = record { gaps = []; go_on = λ ks ps gs h. h; taken = λ i. record before { below = sym (append-nil before.below) i } }
 
   pub gaps_more_of : (after : Option K) (first : List (Option (List ℕ) × Wanted K)) (node : Option (List ℕ) × Wanted K) (before mid now : Found K V)
-      → AreGapsSoFar after first before mid → AddsBelow laws local (record { after = after; before = Some node.1.key }) node.0 mid now
+      → AreGapsSoFar after first before mid → AddsGaps (IsNewGap laws local (record { after = after; before = Some node.1.key }) node.0) mid now
       → AreGapsSoFar (Some node.1.key) (first ++ node ∷ []) before now
   gaps_more_of after first node before mid now so (found, is, n) = record {
     gaps = so.gaps ++ found;
@@ -53,8 +53,8 @@ module _ {K V H : Type 0} (laws : Laws K V H) (local : Side K V H) (gap : Gap K)
 
   -- the page after the last node is the last
   pub gaps_end : (after : Option K) (below : List (Option (List ℕ) × Wanted K)) (last : Option (List ℕ)) (before mid now : Found K V)
-      → AreGapsSoFar after below before mid → AddsBelow laws local (record { after = after; before = gap.before }) last mid now
-      → AddsGapsBeside laws local gap below last before now
+      → AreGapsSoFar after below before mid → AddsGaps (IsNewGap laws local (record { after = after; before = gap.before }) last) mid now
+      → AddsGaps (AreNewGaps laws local gap (below_keys below) (digests_beside below last)) before now
   gaps_end after below last before mid now so (found, is, n) = (
     so.gaps ++ found,
     subst (λ t. AreNewGaps laws local gap t (digests_beside below last) (so.gaps ++ found)) (append-nil (below_keys below)) (so.go_on [] (last ∷ []) found is),

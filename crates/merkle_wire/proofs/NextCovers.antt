@@ -19,14 +19,12 @@ use Rattle.merkle_tree_theory.specs.Canonical.{IsCanonicalRoot, IsTreeOf, SamePa
 use Rattle.merkle_tree_theory.specs.State.{SameSettings}
 use Rattle.merkle_tree_theory.specs.Gap.{IsInGap}
 use Rattle.merkle_tree_theory.specs.Tree.{Tree}
-use Rattle.merkle_wire.specs.Asking.{AsksNothingMore, IsTakenFrom, all_whole}
-use Rattle.merkle_wire.specs.Found.{Found, nothing}
+use Rattle.merkle_wire.specs.Underway.{AsksNothingMore, IsTakenFrom, Found, nothing, Underway}
 use Rattle.merkle_wire.specs.Gaps.{owned_gap}
 use Rattle.merkle_wire.specs.Next.{GoesOn, AsksOrGoesOn, IsNext}
 use Rattle.merkle_wire.specs.Questions.{question_bytes}
 use Rattle.merkle_wire.specs.Replies.{IsReply}
 use Rattle.merkle_wire.specs.Sessions.{IsFaithfulSession, IsNewRow}
-use Rattle.merkle_wire.specs.Underway.{Underway}
 use Rattle.merkle_wire.specs.declared.catching_up.Next.{Next}
 use Rattle.merkle_wire.specs.declared.catching_up.Next.TheVariants.{Ask, Came}
 use Rattle.merkle_wire.specs.declared.question.Question.{Question}
@@ -36,6 +34,7 @@ use Rattle.merkle_wire.proofs.Exchanges.{Tell, IsAgain, takes}
 use Rattle.merkle_wire.proofs.PageCovers.{AreSides}
 use Rattle.merkle_wire.proofs.TellingQuestions.{question_tells}
 use Rattle.merkle_wire.proofs.Covering.{IsNodeOver, IsAmong, AsksAbout, Covers, CoversNext}
+use Rattle.merkle_wire.proofs.Lacking.{all_whole}
 
 -- what some element of a list has, one has in any order
 any-permuted : {X : Type 0} (P : X → Type 0) (xs ys : List X) → IsPermutation xs ys → AnyByRecursion P xs → AnyByRecursion P ys
@@ -140,12 +139,12 @@ module _ {K V H : Type 0} (laws : Laws K V H) (o : IsTotalOrder laws.cmp) (eqv :
   asks_or_goes_on (Some question) rounds found (Came rows) new all goes = absurd goes
 
   -- an exchange of messages covers on
-  pub exchange_covers : (digest_of : K → List ℕ) (before : Underway K V) (question : Question K) (message reply : List ℕ) (next : Next K V)
+  pub exchange_covers : (before : Underway K V) (question : Question K) (message reply : List ℕ) (next : Next K V)
       → message ≡ question_bytes encoding before.asked → message ≡ question_bytes encoding question
-      → IsReply laws.cmp laws.bytes_of encoding values digest_of n peer.rows peer.tree question reply → IsNext laws n encoding values local before reply next
+      → IsReply laws n encoding values peer.rows peer.tree question reply → IsNext laws n encoding values local before reply next
       → Covers laws local (side peer) root before → CoversNext laws local (side peer) root encoding next
-  exchange_covers digest_of before question message reply next asked read is (found, again, taken, goes) c =
-      let t = takes laws o eqv encoding values tell n local peer root sides small digest_of before.asked question reply before.found found again
+  exchange_covers before question message reply next asked read is (found, again, taken, goes) c =
+      let t = takes laws o eqv encoding values tell n local peer root sides small before.asked question reply before.found found again
       (question_tells laws.cmp encoding tell.keys before.asked question (sym asked ∙ read)) is taken in
       asks_or_goes_on again before.rounds found next (t.new c.new) (λ faith k l. by k (t.covers faith k l) (t.keeps k) (c.all faith k l)) goes
     where
@@ -180,17 +179,17 @@ module _ {K V H : Type 0} (laws : Laws K V H) (o : IsTotalOrder laws.cmp) (eqv :
         back = one_tree peer.tree.hasher peer.tree.base map map peer.tree.root root own tree of_map;
       }
 
-  pub exchanged : (digest_of : K → List ℕ) (before : Underway K V) (question : Question K) (message reply : List ℕ) (next : Next K V)
+  pub exchanged : (before : Underway K V) (question : Question K) (message reply : List ℕ) (next : Next K V)
       → message ≡ question_bytes encoding before.asked → message ≡ question_bytes encoding question
-      → IsReply laws.cmp laws.bytes_of encoding values digest_of n met.rows peer.tree question reply → IsNext laws n encoding values local before reply next
+      → IsReply laws n encoding values met.rows peer.tree question reply → IsNext laws n encoding values local before reply next
       → (root : Tree K (List ℕ)) → IsTreeOf laws.cmp (laws.key_digest met.tree.hasher) met.tree.base root (tree_map laws (side met))
       → Covers laws local (side met) root before → CoversNext laws local (side met) root encoding next
-  exchanged digest_of before question message reply next asked read is goes root of_peer c =
+  exchanged before question message reply next asked read is goes root of_peer c =
       let same = same_side met peer rows settings in
       let sides = sides_met root of_peer in
       subst (λ s. CoversNext laws local s root encoding next) same
-      (exchange_covers laws o eqv encoding values tell n local peer root sides small.digests digest_of before question message reply next asked read
-      (subst (λ rs. IsReply laws.cmp laws.bytes_of encoding values digest_of n rs peer.tree question reply) (sym rows) is) goes (subst (λ s. Covers laws local s root before) (sym same) c))
+      (exchange_covers laws o eqv encoding values tell n local peer root sides small.digests before question message reply next asked read
+      (subst (λ rs. IsReply laws n encoding values rs peer.tree question reply) (sym rows) is) goes (subst (λ s. Covers laws local s root before) (sym same) c))
 
 module _ {K V H : Type 0} (laws : Laws K V H) (encoding : K → List ℕ) where
   -- a catch-up that begins covers all: it asks for the root

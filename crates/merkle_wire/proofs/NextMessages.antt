@@ -1,23 +1,24 @@
 -- What comes after a reply that was taken.
-use Rattle.std.proofs.Common.{◌≡◌, ◌≢◌, ℕ, List, [], Option, Some, None, sym, ap, subst, ◌∙◌, inl, inr, ◌≤◌}
+use Rattle.std.proofs.Common.{◌≡◌, ◌≢◌, ℕ, List, [], Option, Some, None, sym, ap, subst, ◌∙◌, inl, inr, ◌≤◌, ◌⊎◌}
 use Rattle.std.specs.declared.cmp.Ordering.{Ordering}
 use Rattle.merkle_replica.specs.Contents.{Side}
 use Rattle.merkle_replica.specs.Laws.{Laws}
-use Rattle.merkle_wire.specs.Asking.{AsksForOutlines, IsAskedOf, AsksNothingMore}
+use Rattle.merkle_wire.specs.Underway.{IsAskedOf, AsksNothingMore, Found, Underway}
 use Rattle.merkle_wire.specs.Faults.{IsRefusedFor}
 use Rattle.merkle_wire.specs.Fit.{IsFit}
-use Rattle.merkle_wire.specs.Found.{Found}
-use Rattle.merkle_wire.specs.Next.{AsksOrGoesOn, GoesOn, HaveTwins, IsAsked, IsCame, IsEnded, IsNext, IsStopped, IsTwice, rounds_with, IfAsks}
+use Rattle.merkle_wire.specs.Next.{AsksOrGoesOn, GoesOn, HaveTwins, IsAsked, IsCame, IsEnded, IsNext, IsStopped, rounds_with, IfAsks}
 use Rattle.merkle_wire.specs.Questions.{question_bytes}
-use Rattle.merkle_wire.specs.Underway.{Underway, HasTakenReply}
+use Rattle.merkle_wire.specs.Taking.{HasTakenReply}
 use Rattle.merkle_wire.specs.declared.catching_up.Next.{Next}
 use Rattle.merkle_wire.specs.declared.catching_up.Next.TheVariants.{Ask, Came}
 use Rattle.merkle_wire.specs.Gaps.{owned_gap}
 use Rattle.merkle_wire.specs.declared.question.Question.{Question}
-use Rattle.merkle_wire.specs.declared.question.Question.TheVariants.{Root, Outlines, Nodes, RowsAt, RowsIn}
+use Rattle.merkle_wire.specs.declared.question.Question.TheVariants.{Outlines}
 use Rattle.merkle_wire.specs.declared.session_error.SessionError.{SessionError}
 use Rattle.merkle_wire.specs.declared.session_error.SessionError.TheVariants.{Limit, Malformed, Memory, NoNode, NotInGap, NothingCame, OtherKind, Refused, TooManyRounds, Twice}
 use Rattle.merkle_wire.proofs.LeftToAsk.{some_mapped}
+use Rattle.merkle_wire.specs.declared.gaps.OwnedGap.{OwnedGap}
+use Rattle.std.specs.Global.{Vec}
 
 module _ {K V H : Type 0} where
   pub is_next : (laws : Laws K V H) (n : ℕ) (encoding : K → List ℕ) (values : V → List ℕ) (local was : Side K V H) (before inside : Underway K V) (reply : List ℕ)
@@ -41,13 +42,9 @@ module _ {K V : Type 0} (cmp : K → K → Ordering) where
   asked_goes_on encoding question before after rounds more (Came rows) asked of r = absurd asked
 
   -- where outlines are asked for, gaps of pages below were found
-  pub outlines_of_some : (question : Question K) (before after : Found K V) → AsksForOutlines question → IsAskedOf (Some question) before after → before.below ≢ []
-  outlines_of_some (Outlines most gaps) before after asks (some, inl (is, e)) none = some_mapped owned_gap gaps.items some.0 (sym is ∙ none)
-  outlines_of_some (Outlines most gaps) before after asks (some, inr (is, e)) none = some_mapped owned_gap gaps.items some.0 (sym is)
-  outlines_of_some (Root settings) before after asks of none = absurd asks
-  outlines_of_some (Nodes most gaps) before after asks of none = absurd asks
-  outlines_of_some (RowsAt keys) before after asks of none = absurd asks
-  outlines_of_some (RowsIn gaps) before after asks of none = absurd asks
+  pub outlines_of_some : (most : ℕ) (gaps : Vec (OwnedGap K)) (before after : Found K V) → IsAskedOf (Some (Outlines most gaps)) before after → before.below ≢ []
+  outlines_of_some most gaps before after (some, inl (is, e)) none = some_mapped owned_gap gaps.items some.0 (sym is ∙ none)
+  outlines_of_some most gaps before after (some, inr (is, e)) none = some_mapped owned_gap gaps.items some.0 (sym is)
 
   -- where nothing is to be asked for and the rows came, it has gone on
   pub came_goes_on : (encoding : K → List ℕ) (rounds : ℕ) (before after : Found K V) (rows : List (K × V)) (next : Next K V) → IsAskedOf None before after
@@ -61,17 +58,10 @@ module _ {K V : Type 0} (cmp : K → K → Ordering) where
 
   -- rows that don't come end the catch-up
   pub twice_ends : (rounds : ℕ) (before after : Found K V) (rows : List (K × V)) (error : SessionError) → IsAskedOf None before after → rows ≡ after.rows
-      → IsTwice cmp rows error → IsEnded cmp rounds before error
-  twice_ends rounds before after rows Memory done is twice = tt
-  twice_ends rounds before after rows Twice done is twice = (subst AsksNothingMore done.1 done.0, subst (HaveTwins cmp) (is ∙ ap (λ f. f.rows) done.1) twice)
-  twice_ends rounds before after rows (Malformed e) done is twice = absurd twice
-  twice_ends rounds before after rows OtherKind done is twice = absurd twice
-  twice_ends rounds before after rows Refused done is twice = absurd twice
-  twice_ends rounds before after rows NothingCame done is twice = absurd twice
-  twice_ends rounds before after rows NotInGap done is twice = absurd twice
-  twice_ends rounds before after rows NoNode done is twice = absurd twice
-  twice_ends rounds before after rows TooManyRounds done is twice = absurd twice
-  twice_ends rounds before after rows (Limit limit) done is twice = absurd twice
+      → (error ≡ Memory) ⊎ ((error ≡ Twice) × HaveTwins cmp rows) → IsEnded cmp rounds before error
+  twice_ends rounds before after rows error done is (inl memory) = subst (IsEnded cmp rounds before) (sym memory) tt
+  twice_ends rounds before after rows error done is (inr (twice, twins)) =
+      subst (IsEnded cmp rounds before) (sym twice) (subst AsksNothingMore done.1 done.0, subst (HaveTwins cmp) (is ∙ ap (λ f. f.rows) done.1) twins)
 
 module _ {K V H : Type 0} (laws : Laws K V H) (n : ℕ) (encoding : K → List ℕ) (values : V → List ℕ) (is_key : K → Type 0) (is_value : V → Type 0) (local : Side K V H)
     (before : Underway K V) (reply : List ℕ) where

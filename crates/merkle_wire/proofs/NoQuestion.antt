@@ -2,7 +2,7 @@
 use Rattle.std.proofs.Common.{◌≡◌, ◌≢◌, ℕ, ◌≤◌, Bool, true, List, [], ◌∷◌, ◌++◌, append-nil, refl, sym, ap, ◌∙◌, arith}
 use Rattle.merkle_bytes.specs.Counts.{count_bytes, count_told}
 use Rattle.merkle_wire.specs.Messages.{front}
-use Rattle.merkle_wire.specs.Questions.{AreGaps, AsksNothing, question_bytes, gaps_bytes, keys_bytes}
+use Rattle.merkle_wire.specs.Questions.{AsksNothing, question_bytes, gaps_bytes}
 use Rattle.merkle_wire.specs.Settings.{settings_bytes, AreSettings}
 use Rattle.merkle_wire.specs.declared.gaps.OwnedGap.{OwnedGap}
 use Rattle.merkle_wire.specs.declared.message.Kind.{Kind}
@@ -12,6 +12,9 @@ use Rattle.merkle_wire.specs.declared.question.Question.TheVariants.{Root, Outli
 use Rattle.merkle_wire.specs.declared.settings.Settings.{Settings}
 use Rattle.merkle_wire.proofs.NoSettings.{same_behind, settings_end}
 use Rattle.merkle_bytes.specs.Reading.{BeginsWithNo}
+use Rattle.merkle_bytes.specs.Runs.{run_bytes}
+use Rattle.merkle_bytes.specs.Keys.{key_behind}
+use Rattle.merkle_wire.proofs.Lacking.{AreGaps}
 
 -- the second byte, that of the kind
 abbrev second : List ℕ → ℕ
@@ -25,7 +28,7 @@ module _ {K : Type 0} (encoding : K → List ℕ) (is_value : K → Type 0) wher
   no_front message none (Root s) of e = none message_kind.AskRoot (settings_bytes encoding s) e
   no_front message none (Outlines most gaps) of e = none message_kind.AskOutlines (count_bytes most ++ gaps_bytes encoding gaps.items) e
   no_front message none (Nodes most gaps) of e = none message_kind.AskNodes (count_bytes most ++ gaps_bytes encoding gaps.items) e
-  no_front message none (RowsAt keys) of e = none message_kind.AskRowsAt (keys_bytes encoding [] keys.items) e
+  no_front message none (RowsAt keys) of e = none message_kind.AskRowsAt (run_bytes (λ last w. key_behind last (encoding w.key)) (λ last w. encoding w.key) [] keys.items) e
   no_front message none (RowsIn gaps) of e = none message_kind.AskRowsIn (gaps_bytes encoding gaps.items) e
 
   -- the kind of a question is one of the first five

@@ -3,7 +3,7 @@ use Rattle.std.specs.Prelude.{⊤}
 use Rattle.std.proofs.Common.{◌≡◌, ◌≢◌, ℕ, ◌+◌, ◌<◌, ◌≤◌, List, [], ◌∷◌, ◌++◌, append_assoc, append-nil, length, take, drop, get_or, map, refl, sym, ap, subst, ◌∙◌, arith}
 use Rattle.std.proofs.lemmas.List.{drop_more, length-append, take-append-drop}
 use Rattle.std.specs.List.{AllByRecursion, flat_map}
-use Rattle.merkle_wire.specs.Fit.{Says, SaysSo}
+use Rattle.merkle_wire.specs.Fit.{Says}
 use Rattle.merkle_wire.specs.Messages.{front}
 use Rattle.merkle_wire.specs.declared.message.Kind.{Kind}
 use Rattle.merkle_wire.proofs.Fronts.{front_told}
@@ -62,13 +62,13 @@ all_told (x ∷ xs) = (tt, all_told xs)
 
 module _ {X Y : Type 0} (P : X → Y → Type 0) (kind : Kind) (asked : List X) (reply : List ℕ) where
   -- what stands after the front of a reply is what it says
-  pub says_nothing : (bytes : List (X × Y) → List ℕ) (left : List ℕ) → reply ≡ front kind ++ left
-      → ((us : List (X × Y)) (others : List X) → asked ≡ map (λ t. t.0) us ++ others → AllByRecursion (λ t. P t.0 t.1) us → left ≢ bytes us) → ¬ SaysSo kind (Says P bytes asked) reply
-  says_nothing bytes left read none (all, says, e) = none says.told says.left says.begins says.each ((front_told kind kind left all (sym read ∙ e)).1 ∙ says.is)
+  pub says_nothing : (bytes : X × Y → List ℕ) (left : List ℕ) → reply ≡ front kind ++ left
+      → ((us : List (X × Y)) (others : List X) → asked ≡ map (λ t. t.0) us ++ others → AllByRecursion (λ t. P t.0 t.1) us → left ≢ flat_map bytes us) → ¬ Says kind bytes P asked reply
+  says_nothing bytes left read none (others, (told, is, some, begins, each, all)) = none told others begins each (front_told kind kind left (flat_map bytes told) (sym read ∙ is)).1
 
   -- a reply without an entry says nothing
-  pub says_no_entry : (bytes : X × Y → List ℕ) → ((t : X × Y) → 1 ≤ length (bytes t)) → ((rest : List ℕ) → rest ≢ [] → reply ≢ front kind ++ rest) → ¬ SaysSo kind (Says P (flat_map bytes) asked) reply
-  says_no_entry bytes some none (all, says, e) = none all (λ nothing. not_all says.told says.some (sym says.is ∙ nothing)) e
+  pub says_no_entry : (bytes : X × Y → List ℕ) → ((t : X × Y) → 1 ≤ length (bytes t)) → ((rest : List ℕ) → rest ≢ [] → reply ≢ front kind ++ rest) → ¬ Says kind bytes P asked reply
+  says_no_entry bytes some none (others, (told, is, any, begins, each, all)) = none (flat_map bytes told) (not_all told any) is
     where
       not_all : (us : List (X × Y)) → us ≢ [] → flat_map bytes us ≢ []
       not_all [] is f = is refl

@@ -1,7 +1,7 @@
 -- What is told of a page, as it is read.
 use Rattle.std.proofs.Common.{◌≡◌, ℕ, ◌+◌, List, [], ◌∷◌, ◌++◌, length, map, Option, get_or, refl, ap, ap₂, sym, ◌∙◌, append_assoc, arith}
 use Rattle.std.proofs.lemmas.List.{length-append, length-map}
-use Rattle.merkle_wire.specs.Reads.{below_keys, digests_beside}
+use Rattle.merkle_wire.specs.Steps.{below_keys, digests_beside}
 use Rattle.merkle_wire.specs.declared.wanted.Wanted.{Wanted}
 
 one_byte : (bytes : List ℕ) (b : ℕ) → length bytes ≡ 1 → get_or bytes 0 0 ≡ b → bytes ≡ b ∷ []

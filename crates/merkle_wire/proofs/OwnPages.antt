@@ -1,5 +1,5 @@
 -- The test of which pages a side has at their places decides it.
-use Rattle.std.specs.Prelude.{◌&&◌, nat_eq}
+use Rattle.std.specs.Prelude.{◌&&◌, nat_eq, IsTrue, ◌↔◌}
 use Rattle.std.proofs.Common.{◌≡◌, ℕ, Bool, true, false, List, [], ◌∷◌, ◌++◌, Option, Some, None, refl, sym, ap, ap₂, subst, ◌∙◌, ◌⊎◌, inl, inr, append-nil}
 use Rattle.std.specs.Cmp.{IsTotalOrder}
 use Rattle.std.specs.Cmp.Lexicographic.{bytes_decides, pointwise}
@@ -17,7 +17,7 @@ use Rattle.merkle_diff.proofs.Each.{each-all, each-both, each-with}
 use Rattle.merkle_replica.specs.Contents.{Side, tree_map}
 use Rattle.merkle_replica.specs.Laws.{Laws}
 use Rattle.merkle_replica.proofs.Bounds.{ascending_digests}
-use Rattle.merkle_search_tree.proofs.SameItems.{page_over-alike}
+use Rattle.merkle_search_tree.proofs.SameItems.{page_over-alike, same_gap-back}
 use Rattle.merkle_tree_theory.specs.Canonical.{SamePages}
 use Rattle.merkle_tree_theory.specs.Gap.{Gap, IsInGap, SameGap, is_in_gap, pairs_within}
 use Rattle.merkle_tree_theory.specs.Lookup.{Fills, page_over}
@@ -28,14 +28,28 @@ use Rattle.merkle_tree_theory.proofs.InGaps.{in_gap_from_test, is_after-alike, i
 use Rattle.merkle_tree_theory.proofs.PageOverGap.{filled_opens, over_inside}
 use Rattle.merkle_tree_theory.proofs.PagesIn.{inside}
 use Rattle.merkle_replica.specs.Missing.{own_tree}
-use Rattle.merkle_wire.specs.Cost.{has_page_at, is_page_at, lie_in}
 use Rattle.merkle_wire.specs.Taking.{HasPageAt}
-use Rattle.merkle_wire.proofs.FilledGaps.{context_down, filling_in_gap}
+use Rattle.merkle_wire.proofs.FilledGaps.{context_down, filling_in_gap, fills-alike}
 use Rattle.merkle_wire.proofs.InGaps.{all_pass}
 use Rattle.merkle_wire.proofs.OverGaps.{over_has}
 use Rattle.merkle_wire.proofs.PagesAt.{IsOwn, page_in_each}
 use Rattle.merkle_wire.proofs.PagesLacked.{TellsOwnPages}
 use Rattle.merkle_wire.proofs.StepCovers.{finds_own}
+
+-- all keys of the pairs are in the gap
+abbrev pub lie_in : {K X : Type 0} → (K → K → Ordering) → Gap K → List (K × X) → Bool
+lie_in cmp g [] = true
+lie_in cmp g (p ∷ ps) = is_in_gap cmp p.0 g && lie_in cmp g ps
+
+module _ {K V H : Type 0} (laws : Laws K V H) (local : Side K V H) where
+  -- whether a page is there, has keys of the gap alone, and has the digest
+  abbrev pub is_page_at : Gap K → List ℕ → Option (Tree K (List ℕ)) → Bool
+  is_page_at g d None = false
+  is_page_at g d (Some found) = lie_in laws.cmp g (pairs found) && pointwise nat_eq (page_digest local.format laws.bytes_of found) d
+
+  -- whether the side's own page that fills the gap has the digest
+  abbrev pub has_page_at : Gap K → List ℕ → Bool
+  has_page_at g d = is_page_at g d (page_over laws.cmp g (own_tree laws local))
 
 both_true : (a b : Bool) → a && b ≡ true → (a ≡ true) × (b ≡ true)
 both_true true b e = (refl, e)
@@ -150,3 +164,20 @@ module _ {K V H : Type 0} (laws : Laws K V H) (o : IsTotalOrder laws.cmp) (local
       let (p, f, is) = page_in_each laws o local same digests g d has own up is_own in
       ap (test g d) (filled_opens laws.cmp o g p own up f)
       ∙ rw (lie_all laws.cmp o g (pairs p) (filling_in_gap laws.cmp o g p own f)) ((bytes_decides (page_digest local.format laws.bytes_of p) d).1 is)
+
+-- a test that decides which pages a side has at their places
+same_test : (a b : Bool) → (a ≡ true → b ≡ true) → (b ≡ true → a ≡ true) → a ≡ b
+same_test true b f g = sym (f refl)
+same_test false true f g = g refl
+same_test false false f g = refl
+
+module _ {K V H : Type 0} (laws : Laws K V H) (o : IsTotalOrder laws.cmp) (local : Side K V H) where
+  at_same : (g h : Gap K) (d : List ℕ) → SameGap laws.cmp g h → HasPageAt laws local g d → HasPageAt laws local h d
+  at_same g h d s (root, page, is_tree, fills, is) = (root, page, is_tree, fills-alike laws.cmp o g h page root s fills, is)
+
+  pub tests_own_pages : (is_there : Gap K → List ℕ → Bool) → ((g : Gap K) (d : List ℕ) → IsTrue (is_there g d) ↔ HasPageAt laws local g d) → TellsOwnPages laws local is_there
+  tests_own_pages is_there decides = record {
+    there = λ g d. (decides g d).0;
+    alike = λ g h d s. same_test (is_there g d) (is_there h d) (λ e. (decides h d).1 (at_same g h d s ((decides g d).0 e)))
+        (λ e. (decides g d).1 (at_same h g d (same_gap-back laws.cmp o g h s) ((decides h d).0 e)));
+  }

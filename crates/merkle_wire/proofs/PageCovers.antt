@@ -28,17 +28,18 @@ use Rattle.merkle_tree_theory.specs.Stream.{page_digest}
 use Rattle.merkle_tree_theory.specs.Tree.{Tree, page}
 use Rattle.merkle_tree_theory.proofs.OutlineDescents.{get_inside}
 use Rattle.merkle_tree_theory.proofs.PagesIn.{page_in}
-use Rattle.merkle_wire.specs.Found.{Found}
+use Rattle.merkle_wire.specs.Underway.{Found}
 use Rattle.merkle_wire.specs.Outlines.{Outline, rows_told, digests_told, page_told, IsTold, HasNoPage, nodes_among, keys_among, pages_beside, nodes_digest}
-use Rattle.merkle_wire.specs.Sessions.{IsFaithfulSession, IsRowOfPeer, IsNewRow}
-use Rattle.merkle_wire.specs.Taking.{HasNodes, AreNewGaps, IsPageTaken, new_rows, new_keys}
+use Rattle.merkle_wire.specs.Sessions.{IsFaithfulSession, IsNewRow}
+use Rattle.merkle_wire.specs.Taking.{HasNodes, AreNewGaps, IsPageTaken, new_keys}
 use Rattle.merkle_wire.proofs.RoundCovers.{new_keys_cover, has_not_all, rows_at_theirs, rows_at_cover, theirs_alike, any_alike, has_row_there, new_rows_new, new_rows_cover}
 use Rattle.merkle_wire.proofs.OverGaps.{over_has}
 use Rattle.merkle_wire.proofs.PagesBelow.{in_gap-alike, map_inside, items_in, nodes_are, nodes_over_in, all_nodes, IsShown, shown}
 use Rattle.merkle_wire.proofs.SameNodes.{node_over-same}
 use Rattle.merkle_wire.proofs.TakenGaps.{IsGapOrNone, nodes_or_none, nodes_spared}
 use Rattle.merkle_wire.proofs.TellingReplies.{SameOutline}
-use Rattle.merkle_wire.proofs.Covering.{IsNodeOver, IsAmong}
+use Rattle.merkle_wire.proofs.Covering.{IsNodeOver, IsAmong, IsRowOfPeer}
+use Rattle.merkle_wire.proofs.Lacking.{new_rows}
 
 -- what is known of the two sides and of the peer's tree: rows ascend, equal values have equal digests, and two trees of the peer's map are the same
 pub record AreSides {K V H : Type 0} (laws : Laws K V H) (local peer : Side K V H) (root tree : Tree K (List ℕ)) : Type 0 where

@@ -21,7 +21,7 @@ use Rattle.merkle_tree_theory.specs.Tree.{Tree, page, Row, high, node, Held, not
 use Rattle.merkle_tree_theory.specs.declared.page_format.PageFormat.{PageFormat}
 use Rattle.merkle_tree_theory.proofs.PageOverGap.{filled_opens}
 use Rattle.merkle_tree_theory.proofs.PagesIn.{itself, page_in}
-use Rattle.merkle_wire.specs.Cost.{lacked_in_held, lacked_in_row, lacked_pages}
+use Rattle.merkle_wire.specs.SessionLaws.{lacked_in_held, lacked_in_row, lacked_pages}
 use Rattle.merkle_wire.specs.Outlines.{keys_among, nodes_among, pages_beside}
 use Rattle.merkle_wire.specs.Taking.{AreNewGaps, HasPageAt, IsNewGap, IsOneGap}
 use Rattle.merkle_wire.proofs.FilledGaps.{fills-alike}

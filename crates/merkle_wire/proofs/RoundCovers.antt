@@ -19,9 +19,11 @@ use Rattle.merkle_tree_theory.specs.Page.{nodes_of, pair_of}
 use Rattle.merkle_tree_theory.specs.Ranges.{IsPageOf}
 use Rattle.merkle_tree_theory.specs.Tree.{Tree, Node}
 use Rattle.merkle_wire.specs.Outlines.{keys_among, nodes_digest, AreRowsAt}
-use Rattle.merkle_wire.specs.Sessions.{DigestTheirValuesAlike, HaveFaithfulNodes, IsRowOfPeer, IsNewRow}
-use Rattle.merkle_wire.specs.Taking.{is_digest, has_digest, has_row, new_rows, new_keys, HasNodes}
+use Rattle.merkle_wire.specs.Sessions.{DigestTheirValuesAlike, HaveFaithfulNodes, IsNewRow}
+use Rattle.merkle_wire.specs.Taking.{is_digest, has_digest, new_keys, HasNodes}
 use Rattle.merkle_wire.proofs.TellingReplies.{SameRow}
+use Rattle.merkle_wire.proofs.Covering.{IsRowOfPeer}
+use Rattle.merkle_wire.proofs.Lacking.{has_row, new_rows}
 
 -- what holds of each of a list holds of those that pass a test, and what holds of one that passes it holds of one of them
 pub each-filter : {X : Type 0} (P : X → Type 0) (test : X → Bool) (xs : List X) → AllByRecursion P xs → AllByRecursion P (filter test xs)
@@ -128,13 +130,13 @@ module _ {K V H : Type 0} (laws : Laws K V H) (o : IsTotalOrder laws.cmp) (eqv :
       → SameKeys laws.cmp (keys_among nodes) keys → digest ≡ nodes_digest nodes → HasNodes laws local keys digest → AnyByRecursion (Same laws.cmp k) (keys_among nodes) → ⊥
   has_not_all faithful s of_peer nodes are keys digest k l a same_keys q (ds, own, is) i =
       let es = map (λ n. n.1) nodes in
-      let same : ds ≡ es = faithful ds es (record {
-        page = s;
-        of_peer = of_peer;
-        own = own_at (nodes_of s) keys (subst (λ ns. SameKeys laws.cmp (keys_among ns) keys) are same_keys) ∙ own;
-        theirs = digests_at (nodes_of s) ∙ ap (map (λ p. p.1)) (sym are);
-        same = is ∙ q;
-      }) in
+      let same : ds ≡ es = faithful ds es (
+        s,
+        of_peer,
+        own_at (nodes_of s) keys (subst (λ ns. SameKeys laws.cmp (keys_among ns) keys) are same_keys) ∙ own,
+        digests_at (nodes_of s) ∙ ap (map (λ p. p.1)) (sym are),
+        is ∙ q,
+      ) in
       none_lacked nodes keys k l a same_keys (own ∙ ap (map Some) same) i
 
   -- rows of the peer

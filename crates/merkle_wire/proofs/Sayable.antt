@@ -36,6 +36,8 @@ use Rattle.merkle_wire.proofs.Outside.{ascend-alike, ascend_between-same, own_ke
 use Rattle.merkle_wire.proofs.PagesBelow.{map_inside, nodes_in}
 use Rattle.merkle_wire.proofs.StepCovers.{finds_own}
 use Rattle.merkle_wire.proofs.TellingReplies.{Fits}
+use Rattle.merkle_wire.specs.Messages.{front}
+use Rattle.merkle_wire.specs.declared.message.Kind.{Kind}
 
 module _ {K : Type 0} (cmp : K → K → Ordering) (o : IsTotalOrder cmp) where
   -- what is above a key that parts a gap, and in the gap, is after the key
@@ -208,14 +210,17 @@ module _ {X Y : Type 0} (E : X → X → Type 0) where
       some_asked (x ∷ xs) (y ∷ ys) s some e = absurd (cc)
 
       -- what answers one list says what can be said of the other
-      pub answers_say : (xs ys : List X) (us : List (X × Y)) → AllZip E xs ys → xs ≢ [] → AllByRecursion F xs → TellsFirst Q ys us → Says P (flat_map bytes) xs (flat_map bytes us)
-      answers_say xs ys us s some f a =
-          let (ts, left, begins, alike) = told_again xs us a.left (subst (AllZip E xs) a.begins s) in
-          record {
-            told = ts;
-            left = left;
-            some = some_alike ts us alike (a.some (some_asked xs ys s some));
-            begins = begins;
-            each = each_alike ts us alike (each-before F (map (λ t. t.0) ts) left (subst (AllByRecursion F) begins f)) a.each;
-            is = sym (bytes_alike ts us alike);
-          }
+      pub answers_say : (kind : Kind) (reply : List ℕ) (xs ys : List X) (us : List (X × Y)) → AllZip E xs ys → xs ≢ [] → AllByRecursion F xs
+          → TellsFirst Q ys us → reply ≡ front kind ++ flat_map bytes us → Says kind bytes P xs reply
+      answers_say kind reply xs ys us s some f a sent =
+          let (ts, left, begins, alike) = told_again xs us a.0 (subst (AllZip E xs) a.1 s) in (
+            left,
+            (
+              ts,
+              sent ∙ ap (λ t. front kind ++ t) (sym (bytes_alike ts us alike)),
+              some_alike ts us alike (a.2 (some_asked xs ys s some)),
+              begins,
+              each_alike ts us alike (each-before F (map (λ t. t.0) ts) left (subst (AllByRecursion F) begins f)) a.3,
+              tt,
+            ),
+          )

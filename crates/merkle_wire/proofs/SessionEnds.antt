@@ -15,17 +15,15 @@ use Rattle.merkle_search_tree.proofs.SameItems.{same_gap-back, same_gap-own, sam
 use Rattle.merkle_tree_theory.specs.Gap.{Gap, SameGap, everywhere, part_behind}
 use Rattle.merkle_tree_theory.specs.Outline.{outline_over}
 use Rattle.merkle_tree_theory.specs.Tree.{Tree}
-use Rattle.merkle_wire.specs.Asking.{IsTakenFrom, all_whole}
-use Rattle.merkle_wire.specs.Coming.{AscendIn, LiesIn}
-use Rattle.merkle_wire.specs.Found.{Found}
+use Rattle.merkle_wire.specs.Underway.{IsTakenFrom, Found, Underway}
+use Rattle.merkle_wire.specs.Coming.{AscendIn, LiesIn, OutlinesCome}
 use Rattle.merkle_wire.specs.Gaps.{owned_gap}
 use Rattle.merkle_wire.specs.Messages.{front}
 use Rattle.merkle_wire.specs.Next.{AsksOrGoesOn, IsNext, IfAsks}
 use Rattle.merkle_wire.specs.Outlines.{Outline, rows_told, digests_told, page_told, IsTold, nodes_among}
 use Rattle.merkle_wire.specs.Replies.{TellsFirst, IsPartOf, IsReply, Part, items_over, outline_over_bytes, part_in_bytes}
-use Rattle.merkle_wire.specs.Sessions.{IsRowOfPeer, IsKeyOf}
-use Rattle.merkle_wire.specs.Taking.{AddsKeys, AreBehind, AreTaken, IsBehind, IsRootTaken, IsPageTaken, has_digest, new_keys}
-use Rattle.merkle_wire.specs.Underway.{AsksAgain, HasOutlines, HasParts, HasTakenReply, Underway}
+use Rattle.merkle_wire.specs.Sessions.{IsKeyOf}
+use Rattle.merkle_wire.specs.Taking.{AreBehind, AreTaken, IsBehind, IsRootTaken, IsPageTaken, has_digest, new_keys, AddsRows, PartsCome, AsksAgain, HasTakenReply}
 use Rattle.merkle_wire.specs.declared.catching_up.Next.{Next}
 use Rattle.merkle_wire.specs.declared.catching_up.Next.TheVariants.{Ask, Came}
 use Rattle.merkle_wire.specs.declared.gaps.OwnedGap.{OwnedGap}
@@ -50,6 +48,8 @@ use Rattle.merkle_wire.proofs.TellingReplies.{SameOutline, outlines_tell, parts_
 use Rattle.merkle_wire.proofs.Times.{total-append, total-mapped}
 use Rattle.merkle_wire.proofs.RowsCounted.{ascending_counted, behind_counted, parts_counted, rows_alike}
 use Rattle.merkle_wire.proofs.Steady.{AsksForPages, IsFilled, IsSteadyCatchUp, left_by, left_for, left_of, nodes_over, count_in, times_in, total}
+use Rattle.merkle_wire.proofs.Covering.{IsRowOfPeer}
+use Rattle.merkle_wire.proofs.Lacking.{all_whole}
 
 module _ {K V H : Type 0} (laws : Laws K V H) (o : IsTotalOrder laws.cmp) (eqv : IsEquivalence laws.eq) (encoding : K → List ℕ) (values : V → List ℕ) (tell : Tell laws encoding values) (n : ℕ)
     (local : Side K V H) (peer : Contents K V H) (root : Tree K (List ℕ)) (sides : AreSides laws local (side peer) root peer.tree.root)
@@ -106,7 +106,8 @@ module _ {K V H : Type 0} (laws : Laws K V H) (o : IsTotalOrder laws.cmp) (eqv :
   same_nodes_length (x ∷ ns) [] s = absurd s
   same_nodes_length (x ∷ ns) (y ∷ ms) s = omega (arith, same_nodes_length ns ms s.2)
 
-  keys_added : (before after : Found K V) (nodes : List (K × List ℕ)) → AddsKeys laws local nodes before after → left_found after ≤ left_found before + length nodes
+  keys_added : (before after : Found K V) (nodes : List (K × List ℕ)) → after ≡ record before { wanted = before.wanted ++ new_keys laws local nodes }
+      → left_found after ≤ left_found before + length nodes
   keys_added before after nodes e =
       let new = filter (λ m. not (has_digest laws local m.0 m.1)) nodes in
       subst (λ f. left_found f ≤ left_found before + length nodes) (sym e)
@@ -217,20 +218,20 @@ module _ {K V H : Type 0} (laws : Laws K V H) (o : IsTotalOrder laws.cmp) (eqv :
       (told' : List (OwnedGap K × Outline K V)) → AllZip (SameGapTold laws.cmp encoding) gaps gaps'
       → (answers : TellsFirst (λ g. IsTold laws.cmp peer.rows with_pages (items_over laws.cmp laws.bytes_of peer.tree g)) gaps' told')
       → reply ≡ front kind ++ flat_map (outline_over_bytes encoding values) told'
-      → (has : HasOutlines laws n encoding values local (front kind) gaps reply before after left)
+      → (has : OutlinesCome laws.cmp encoding values n kind (λ told. AreTaken laws local told before after) gaps reply left)
       → AllZip (λ t u. SameGapTold laws.cmp encoding t.0 u.0 × SameOutline laws.cmp laws.eq t.1 u.1) has.0 told'
   lists_alike with_pages kind gaps gaps' left reply before after told' alike answers sent (told, read, some, are, lies, taken) =
       let bytes = (join_tells (front kind) (front kind) (flat_map (outline_over_bytes encoding values) told) (flat_map (outline_over_bytes encoding values) told') refl (sym read ∙ sent)).1 in
-      outlines_tell laws.cmp laws.eq encoding values tell.keys tell.value (SameGapTold laws.cmp encoding) (λ g h e. e.1) n told told' left answers.left
+      outlines_tell laws.cmp laws.eq encoding values tell.keys tell.value (SameGapTold laws.cmp encoding) (λ g h e. e.1) n told told' left answers.0
       (same_begin laws o eqv encoding values tell n local peer root sides small
-      (SameGapTold laws.cmp encoding) gaps gaps' told told' left answers.left alike are answers.begins) (fits_read laws local n told before after lies taken)
-      (sent_fits laws o eqv encoding values tell n local peer root sides small with_pages told' answers.each) bytes
+      (SameGapTold laws.cmp encoding) gaps gaps' told told' left answers.0 alike are answers.1) (fits_read laws local n told before after lies taken)
+      (sent_fits laws o eqv encoding values tell n local peer root sides small with_pages told' answers.3) bytes
 
   outlines_left : (with_pages : Bool) (kind : Kind) (rounds : ℕ) (gaps gaps' left : List (OwnedGap K)) (reply : List ℕ) (before after : Found K V)
       (told' : List (OwnedGap K × Outline K V)) → AllByRecursion (Filled rounds) gaps
       → AllZip (SameGapTold laws.cmp encoding) gaps gaps' → TellsFirst (λ g. IsTold laws.cmp peer.rows with_pages (items_over laws.cmp laws.bytes_of peer.tree g)) gaps'
       told' → reply ≡ front kind ++ flat_map (outline_over_bytes encoding values) told'
-      → HasOutlines laws n encoding values local (front kind) gaps reply before after left
+      → OutlinesCome laws.cmp encoding values n kind (λ told. AreTaken laws local told before after) gaps reply left
       → left_found after + total (λ g. left_about with_pages (owned_gap g)) left + 1 ≤ left_found before + total (λ g. left_about with_pages (owned_gap g)) gaps
   outlines_left with_pages kind rounds gaps gaps' left reply before after told' filled alike answers sent (told, read, some, are, lies, taken) =
       let lists = lists_alike with_pages kind gaps gaps' left reply before after told' alike answers sent (told, read, some, are, lies, taken) in
@@ -241,7 +242,7 @@ module _ {K V H : Type 0} (laws : Laws K V H) (o : IsTotalOrder laws.cmp) (eqv :
         ap (total about) are,
         total-append about (map (λ t. t.0) told) left,
         outlines_less with_pages rounds told told' before after
-            (each-before (Filled rounds) (map (λ t. t.0) told) left (subst (AllByRecursion (Filled rounds)) are filled)) lists answers.each lies taken,
+            (each-before (Filled rounds) (map (λ t. t.0) told) left (subst (AllByRecursion (Filled rounds)) are filled)) lists answers.3 lies taken,
       )
 
   -- parts of the rows in gaps
@@ -280,15 +281,15 @@ module _ {K V H : Type 0} (laws : Laws K V H) (o : IsTotalOrder laws.cmp) (eqv :
 
   parts_left : (gaps gaps' left : List (OwnedGap K)) (reply : List ℕ) (before after : Found K V) (told' : List (OwnedGap K × Part K V)) → AllZip (SameGapTold laws.cmp encoding) gaps gaps'
       → TellsFirst (IsPartOf laws.cmp peer.rows) gaps' told' → reply ≡ front rows_in_kind ++ flat_map (part_in_bytes encoding values) told'
-      → HasParts laws n encoding values local gaps reply before after left
+      → PartsCome laws.cmp encoding values (λ rows. AddsRows laws local rows before after) gaps reply left
       → left_found after + in_gaps left + 1 ≤ left_found before + in_gaps gaps
-  parts_left gaps gaps' left reply before after told' alike answers sent (told, behind, rest, read, some, are, up, are_behind, is_left, taken) =
+  parts_left gaps gaps' left reply before after told' alike answers sent (behind, rest, is_left, (told, read, some, are, up, (are_behind, taken))) =
       let bytes = (join_tells (front rows_in_kind) (front rows_in_kind) (flat_map (part_in_bytes encoding values) told) (flat_map (part_in_bytes encoding values) told') refl (sym read ∙ sent)).1 in
-      let lists = parts_tell laws.cmp laws.eq encoding values tell.keys tell.value (SameGapTold laws.cmp encoding) (λ g h e. e.1) told told' rest answers.left
+      let lists = parts_tell laws.cmp laws.eq encoding values tell.keys tell.value (SameGapTold laws.cmp encoding) (λ g h e. e.1) told told' rest answers.0
       (same_begin laws o eqv encoding values tell n local peer root sides small
-      (SameGapTold laws.cmp encoding) gaps gaps' told told' rest answers.left alike are answers.begins) (each-all (λ t. ⊤) told (λ t. tt)) (each-all (λ t. ⊤) told' (λ t. tt)) bytes in
+      (SameGapTold laws.cmp encoding) gaps gaps' told told' rest answers.0 alike are answers.1) (each-all (λ t. ⊤) told (λ t. tt)) (each-all (λ t. ⊤) told' (λ t. tt)) bytes in
       let rows = flat_map (λ (t : OwnedGap K × Part K V). t.1.rows) told in
-      let theirs = parts_theirs laws o eqv local (side peer) root tree sides (SameGapTold laws.cmp encoding) (λ g h e. e.0) told told' lists answers.each in
+      let theirs = parts_theirs laws o eqv local (side peer) root tree sides (SameGapTold laws.cmp encoding) (λ g h e. e.0) told told' lists answers.3 in
       let keys = each-with (IsRowOfPeer laws local (side peer)) (λ r. IsKeyOf laws.cmp peer.rows r.0) rows (λ r (v, there, e). (v, there)) theirs in
       omega (
         arith,
@@ -318,14 +319,14 @@ module _ {K V H : Type 0} (laws : Laws K V H) (o : IsTotalOrder laws.cmp) (eqv :
       subst (λ f. left_found f + 1 ≤ left_found before + (3 * length peer.rows + 2)) (sym e) (omega (arith, all_rows peer.rows, total-append rows_of before.below (everywhere ∷ [])))
 
   -- a reply leaves less to ask for
-  taken_less : (digest_of : K → List ℕ) (u : Underway K V) (question : Question K) (reply : List ℕ) (after : Found K V) (again : Option (Question K))
+  taken_less : (u : Underway K V) (question : Question K) (reply : List ℕ) (after : Found K V) (again : Option (Question K))
       → IsSteadyCatchUp laws (side peer) root u → SameQuestion laws.cmp encoding u.asked question
-      → IsReply laws.cmp laws.bytes_of encoding values digest_of n peer.rows peer.tree question reply → HasTakenReply laws n encoding values local u.asked reply u.found after again
+      → IsReply laws n encoding values peer.rows peer.tree question reply → HasTakenReply laws n encoding values local u.asked reply u.found after again
       → left_found after + Again again + 1 ≤ left_found u.found + By u.asked
-  taken_less digest_of u question reply after again s = by u.asked question s.asked
+  taken_less u question reply after again s = by u.asked question s.asked
     where
       by : (asked question : Question K) → AsksForPages laws (side peer) root u.rounds asked → SameQuestion laws.cmp encoding asked question
-          → IsReply laws.cmp laws.bytes_of encoding values digest_of n peer.rows peer.tree question reply
+          → IsReply laws n encoding values peer.rows peer.tree question reply
           → HasTakenReply laws n encoding values local asked reply u.found after again → left_found after + Again again + 1 ≤ left_found u.found + By asked
       by (Root a) (Root b) pages alike is (count, digest, read, taken, none) = omega (arith, ap Again none, root_left digest u.found after taken)
       by (Outlines m gs) (Outlines m' hs) pages alike (told', answers, sent) (left, has, asks) =
@@ -344,7 +345,7 @@ module _ {K V H : Type 0} (laws : Laws K V H) (o : IsTotalOrder laws.cmp) (eqv :
             twice gs.items,
             outlines_left false nodes_kind 0 gs.items hs.items left reply u.found after told' pages alike answers sent has,
           )
-      by (RowsAt ws) (RowsAt xs) pages alike is (left, (told, read, some, are, taken), asks) =
+      by (RowsAt ws) (RowsAt xs) pages alike is (left, (told, read, some, are, any, taken), asks) =
           omega (
             arith,
             again_left RowsAt length left again (λ ys. refl) asks,
@@ -389,11 +390,11 @@ module _ {K V H : Type 0} (laws : Laws K V H) (o : IsTotalOrder laws.cmp) (eqv :
       by (inr t) = omega (arith, taken_from_left session.asked (all_whole f) session.found t, whole_left rounds f a)
   next_left (Some question) rounds f session message a (is, e) = omega (arith, ap (left_for laws (side peer) root) e)
 
-  pub leaves_less : (digest_of : K → List ℕ) (before : Underway K V) (question : Question K) (reply : List ℕ) (next : Next K V) → IsSteadyCatchUp laws (side peer) root before
+  pub leaves_less : (before : Underway K V) (question : Question K) (reply : List ℕ) (next : Next K V) → IsSteadyCatchUp laws (side peer) root before
       → SameQuestion laws.cmp encoding before.asked question
-      → IsReply laws.cmp laws.bytes_of encoding values digest_of n peer.rows peer.tree question reply → IsNext laws n encoding values local before reply next
+      → IsReply laws n encoding values peer.rows peer.tree question reply → IsNext laws n encoding values local before reply next
       → IfAsks (λ after. left_for laws (side peer) root after < left_for laws (side peer) root before) next
-  leaves_less digest_of before question reply (Came rows) s alike is comes = tt
-  leaves_less digest_of before question reply (Ask session message) s alike is (found, again, taken, goes) =
-      let t = stay laws o eqv encoding values tell n local peer root sides small digest_of before.asked question before.rounds before.left reply before.found found again s alike is taken in
-      omega (arith, taken_less digest_of before question reply found again s alike is taken, next_left again before.rounds found session message t.steady.below goes)
+  leaves_less before question reply (Came rows) s alike is comes = tt
+  leaves_less before question reply (Ask session message) s alike is (found, again, taken, goes) =
+      let t = stay laws o eqv encoding values tell n local peer root sides small before.asked question before.rounds before.left reply before.found found again s alike is taken in
+      omega (arith, taken_less before question reply found again s alike is taken, next_left again before.rounds found session message t.steady.below goes)

@@ -11,12 +11,11 @@ use Rattle.merkle_replica.specs.Laws.{Laws}
 use Rattle.merkle_tree_theory.specs.State.{State}
 use Rattle.merkle_tree_theory.specs.declared.page_format.PageFormat.{PageFormat}
 use Rattle.merkle_tree_theory.specs.declared.page_format.PageFormat.TheVariants.{V1, V2}
-use Rattle.merkle_wire.specs.Asking.{IsAskedOf, IsTakenFrom, all_whole}
-use Rattle.merkle_wire.specs.Found.{Found}
+use Rattle.merkle_wire.specs.Underway.{IsAskedOf, IsTakenFrom, Found, Underway}
 use Rattle.merkle_wire.specs.Next.{IsNext, IfAsks}
 use Rattle.merkle_wire.specs.Questions.{question_bytes}
 use Rattle.merkle_wire.specs.Settings.{IsDigested, format_byte, settings_bytes}
-use Rattle.merkle_wire.specs.Underway.{AsksAgain, HasTakenReply, Underway}
+use Rattle.merkle_wire.specs.Taking.{AsksAgain, HasTakenReply}
 use Rattle.merkle_wire.specs.declared.catching_up.Next.{Next}
 use Rattle.merkle_wire.specs.declared.catching_up.Next.TheVariants.{Ask, Came}
 use Rattle.merkle_wire.specs.declared.question.Question.{Question}
@@ -25,6 +24,7 @@ use Rattle.merkle_wire.specs.declared.settings.Settings.{Settings}
 use Rattle.merkle_wire.proofs.NoSettings.{pair_bytes, sample_bytes, same_behind, settings_behind}
 use Rattle.merkle_wire.specs.Replies.{TellsSettings}
 use Rattle.merkle_wire.proofs.Covering.{TellsOwn}
+use Rattle.merkle_wire.proofs.Lacking.{all_whole}
 
 same_format : (a b : PageFormat) → format_byte a ≡ format_byte b → a ≡ b
 same_format V1 V1 e = refl

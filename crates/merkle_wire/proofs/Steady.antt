@@ -1,10 +1,8 @@
 -- A catch-up with a peer that answers by its rows: each of its replies can be taken, until the rows come.
-use Rattle.std.specs.Prelude.{◌≡◌, ℕ, ◌+◌, ◌*◌, ◌<◌, ◌≤◌, ◌^◌, List, [], ◌∷◌, length, cond, ⊤, ◌⊎◌}
-use Rattle.std.specs.Global.{Vec}
+use Rattle.std.specs.Prelude.{◌≡◌, ℕ, ◌+◌, ◌*◌, ◌<◌, ◌≤◌, List, [], ◌∷◌, length, cond, ⊤, ◌⊎◌}
 use Rattle.std.specs.List.{AllByRecursion}
 use Rattle.std.specs.Ordering.{is_eq}
 use Rattle.std.specs.declared.cmp.Ordering.{Ordering}
-use Rattle.key_order.specs.Map.{IsMap, get}
 use Rattle.merkle_replica.specs.Contents.{Side}
 use Rattle.merkle_replica.specs.Laws.{Laws}
 use Rattle.merkle_tree_theory.specs.Gap.{Gap, is_in_gap}
@@ -12,12 +10,10 @@ use Rattle.merkle_tree_theory.specs.Lookup.{Fills}
 use Rattle.merkle_tree_theory.specs.Outline.{outline_over}
 use Rattle.merkle_tree_theory.specs.Page.{level}
 use Rattle.merkle_tree_theory.specs.Tree.{Tree}
-use Rattle.merkle_wire.specs.Asking.{AsksForSome}
-use Rattle.merkle_wire.specs.Found.{Found}
+use Rattle.merkle_wire.specs.Underway.{AsksForSome, Found, Underway}
 use Rattle.merkle_wire.specs.Gaps.{HasKeyBounds, owned_gap}
 use Rattle.merkle_wire.specs.Outlines.{nodes_among, keys_among}
 use Rattle.merkle_wire.specs.Questions.{IsQuestion}
-use Rattle.merkle_wire.specs.Underway.{Underway}
 use Rattle.merkle_wire.specs.declared.answering.AnswerError.TheVariants as answer
 use Rattle.merkle_wire.specs.declared.question.Question.{Question}
 use Rattle.merkle_wire.specs.declared.question.Question.TheVariants.{Root, Outlines, Nodes, RowsAt, RowsIn}

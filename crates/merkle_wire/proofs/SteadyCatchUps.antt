@@ -1,6 +1,6 @@
 -- A catch-up with a peer that answers by its rows stays steady: each of its replies can be taken, and what comes next is steady.
 use Rattle.std.specs.Prelude.{⊤}
-use Rattle.std.proofs.Common.{◌≡◌, ◌≢◌, ℕ, ◌+◌, ◌<◌, ◌≤◌, Bool, true, false, List, [], ◌∷◌, ◌++◌, append_assoc, length, map, flat_map, Option, Some, None, refl, sym, ap, subst, ◌∙◌, inl, inr, arith}
+use Rattle.std.proofs.Common.{◌≡◌, ◌≢◌, ℕ, ◌+◌, ◌<◌, ◌≤◌, Bool, true, false, List, [], ◌∷◌, ◌++◌, length, map, flat_map, Option, Some, None, refl, sym, ap, subst, ◌∙◌, inl, inr, arith, ◌⊎◌}
 use Rattle.std.specs.Global.{Vec}
 use Rattle.std.specs.List.{AllByRecursion, AllZip}
 use Rattle.std.specs.Cmp.{IsTotalOrder, IsEquivalence, tied_itself}
@@ -9,7 +9,6 @@ use Rattle.key_order.specs.Order.{Same}
 use Rattle.key_order.proofs.ListParts.{each-append, each-before, each-behind, join_tells}
 use Rattle.key_order.proofs.SameKeys.{SameKeys, same_keys-back}
 use Rattle.key_order.proofs.SameMaps.{ascends, same_is_map}
-use Rattle.merkle_bytes.specs.Counts.{count_bytes}
 use Rattle.merkle_bytes.specs.Options.{IsOption, option_bytes}
 use Rattle.merkle_bytes.specs.Runs.{bound_key}
 use Rattle.merkle_diff.proofs.Each.{each-all, each-with}
@@ -29,21 +28,19 @@ use Rattle.merkle_tree_theory.proofs.PagesIn.{itself}
 use Rattle.merkle_tree_theory.proofs.SameRanges.{same-pairs}
 use Rattle.merkle_tree_theory.proofs.Sound.{level_low}
 use Rattle.merkle_tree_theory.proofs.StreamParts.{digest_length}
-use Rattle.merkle_wire.specs.Asking.{AsksForSome}
-use Rattle.merkle_wire.specs.Coming.{IsPageDigest}
+use Rattle.merkle_wire.specs.Underway.{AsksForSome, Found, Underway}
+use Rattle.merkle_wire.specs.Coming.{IsPageDigest, OutlinesCome}
 use Rattle.merkle_wire.specs.Fit.{IsFit, IsOutlineIn, IsPartIn}
-use Rattle.merkle_wire.specs.Found.{Found}
 use Rattle.merkle_wire.specs.Gaps.{owned_gap}
 use Rattle.merkle_wire.specs.Messages.{front}
 use Rattle.merkle_wire.specs.Next.{HaveTwins, IsStopped}
 use Rattle.merkle_wire.specs.Outlines.{Outline, rows_told, digests_told, page_told, IsTold, keys_among, nodes_among, outline_bytes, pages_beside}
-use Rattle.merkle_wire.specs.Replies.{TellsFirst, IsPartOf, IsReply, items_over, part_bytes, whole_digest, outline_over_bytes, part_in_bytes, value_at_bytes}
-use Rattle.merkle_wire.specs.Sessions.{CanBeTold, IsMemoryOrLimit}
-use Rattle.merkle_wire.specs.Taking.{AreNewGaps, AreTaken, IsRootTaken, IsPageTaken, value_row}
-use Rattle.merkle_wire.specs.Underway.{AsksAgain, HasOutlines, HasParts, HasTakenReply, HasValues, Underway}
+use Rattle.merkle_wire.specs.Replies.{TellsFirst, IsPartOf, IsReply, items_over, part_bytes, whole_digest, outline_over_bytes}
+use Rattle.merkle_wire.specs.Sessions.{CanBeTold}
+use Rattle.merkle_wire.specs.Taking.{AreNewGaps, AreTaken, IsRootTaken, IsPageTaken, value_row, AddsRows, PartsCome, ValuesCome, AsksAgain, HasTakenReply}
 use Rattle.merkle_wire.specs.declared.gaps.OwnedGap.{OwnedGap}
 use Rattle.merkle_wire.specs.declared.message.Kind.{Kind}
-use Rattle.merkle_wire.specs.declared.message.Kind.TheVariants.{Root as root_kind, Outlines as outlines_kind, Nodes as nodes_kind}
+use Rattle.merkle_wire.specs.declared.message.Kind.TheVariants.{Outlines as outlines_kind, Nodes as nodes_kind, RowsAt as rows_at_kind, RowsIn as rows_in_kind}
 use Rattle.merkle_wire.specs.declared.limits.Limits.{Limits}
 use Rattle.merkle_wire.specs.declared.question.Question.{Question}
 use Rattle.merkle_wire.specs.declared.question.Question.TheVariants.{Root, Outlines, Nodes, RowsAt, RowsIn}
@@ -62,6 +59,11 @@ use Rattle.merkle_wire.proofs.Times.{total-append, total-permuted}
 use Rattle.merkle_wire.proofs.TimesTaken.{outlines_times, parts_times, root_times, rows_added, times_about, values_times}
 use Rattle.merkle_wire.proofs.AskedNext.{AreSteady, IsAgainFit, again_fit, times_again}
 use Rattle.merkle_wire.proofs.Steady.{AsksForPages, IsFilled, IsSteadyCatchUp, times_asked, times_at, times_in, total}
+use Rattle.merkle_wire.specs.declared.limits.Limit.{Limit as LimitOf}
+
+-- memory ran out, or a limit was reached
+abbrev pub IsMemoryOrLimit : SessionError → Type 0
+IsMemoryOrLimit error = (error ≡ Memory) ⊎ ((limit : LimitOf) × (error ≡ Limit limit))
 
 module _ {K V H : Type 0} (laws : Laws K V H) (o : IsTotalOrder laws.cmp) (eqv : IsEquivalence laws.eq) (encoding : K → List ℕ) (values : V → List ℕ) (tell : Tell laws encoding values) (n : ℕ)
     (local : Side K V H) (peer : Contents K V H) (root : Tree K (List ℕ)) (sides : AreSides laws local (side peer) root peer.tree.root)
@@ -150,17 +152,17 @@ module _ {K V H : Type 0} (laws : Laws K V H) (o : IsTotalOrder laws.cmp) (eqv :
       → Steady rounds (λ k. total (λ g. times_about laws o local (side peer) root tree sides.same n k with_pages (owned_gap g)) gaps) before
       → AllZip (SameGapTold laws.cmp encoding) gaps gaps' → TellsFirst (λ g. IsTold laws.cmp peer.rows with_pages (items_over laws.cmp laws.bytes_of peer.tree g)) gaps'
       told' → reply ≡ front kind ++ flat_map (outline_over_bytes encoding values) told'
-      → HasOutlines laws n encoding values local (front kind) gaps reply before after left → AsksAgain ask left again → StaySteady rounds again after
+      → OutlinesCome laws.cmp encoding values n kind (λ told. AreTaken laws local told before after) gaps reply left → AsksAgain ask left again → StaySteady rounds again after
   outlines_stay with_pages kind ask r rounds gaps gaps' left reply before after again told' some pages count same_rounds filled s same answers sent (told, read, any, are, lies, taken) asks =
       let bytes = (join_tells (front kind) (front kind) (flat_map (outline_over_bytes encoding values) told) (flat_map (outline_over_bytes encoding values) told') refl (sym read ∙ sent)).1 in
-      let alike = outlines_tell laws.cmp laws.eq encoding values tell.keys tell.value (SameGapTold laws.cmp encoding) (λ g h e. e.1) n told told' left answers.left
+      let alike = outlines_tell laws.cmp laws.eq encoding values tell.keys tell.value (SameGapTold laws.cmp encoding) (λ g h e. e.1) n told told' left answers.0
       (same_begin laws o eqv encoding values tell n local peer root sides small
-      (SameGapTold laws.cmp encoding) gaps gaps' told told' left answers.left same are answers.begins) (fits_read laws local n told before after lies taken)
-      (sent_fits laws o eqv encoding values tell n local peer root sides small with_pages told' answers.each) bytes in
+      (SameGapTold laws.cmp encoding) gaps gaps' told told' left answers.0 same are answers.1) (fits_read laws local n told before after lies taken)
+      (sent_fits laws o eqv encoding values tell n local peer root sides small with_pages told' answers.3) bytes in
       let both = subst (AllByRecursion (λ g. Filled 257 r (owned_gap g))) are filled in
       let first = each-before (λ g. Filled 257 r (owned_gap g)) (map (λ t. t.0) told) left both in
       let after_pages = all_pages with_pages rounds told told' before after
-      (λ with. subst (λ q. AllByRecursion (λ g. Filled 257 q (owned_gap g)) (map (λ t. t.0) told)) (same_rounds with) first) alike answers.each taken (s.below, s.nodes) in
+      (λ with. subst (λ q. AllByRecursion (λ g. Filled 257 q (owned_gap g)) (map (λ t. t.0) told)) (same_rounds with) first) alike answers.3 taken (s.below, s.nodes) in
       let (fit, left_times) = again_fit laws (side peer) root encoding ask (λ g. Filled 257 r (owned_gap g))
       (λ k g. times_about laws o local (side peer) root tree sides.same n k with_pages (owned_gap g)) rounds left again some pages count asks
       (each-behind (λ g. Filled 257 r (owned_gap g)) (map (λ t. t.0) told) left both) in
@@ -177,15 +179,15 @@ module _ {K V H : Type 0} (laws : Laws K V H) (o : IsTotalOrder laws.cmp) (eqv :
                 ap (total about) are,
                 total-append about (map (λ t. t.0) told) left,
                 left_times k,
-                outlines_times laws o local (side peer) root tree sides.same n k (SameGapTold laws.cmp encoding) (λ g h e. e.0) with_pages told told' before after alike answers.each lies taken,
+                outlines_times laws o local (side peer) root tree sides.same n k (SameGapTold laws.cmp encoding) (λ g h e. e.0) with_pages told told' before after alike answers.3 lies taken,
               );
         };
       }
 
   values_stay : (rounds : ℕ) (keys left : List (Wanted K)) (reply : List ℕ) (before after : Found K V) (again : Option (Question K))
       → Steady rounds (λ k. total (λ w. times_at laws.cmp k w.key) keys) before
-      → HasValues laws n encoding values local keys reply before after left → AsksAgain RowsAt left again → StaySteady rounds again after
-  values_stay rounds keys left reply before after again s (told, read, any, are, taken) asks =
+      → ValuesCome values (λ rows. AddsRows laws local rows before after) keys reply left → AsksAgain RowsAt left again → StaySteady rounds again after
+  values_stay rounds keys left reply before after again s (told, read, any, are, each, taken) asks =
       let (fit, left_times) = again_fit laws (side peer) root encoding RowsAt (λ w. ⊤) (λ k w. times_at laws.cmp k w.key) rounds left again (λ xs e. e) (λ xs a. tt)
       (λ k xs. refl) asks (each-all (λ w. ⊤) left (λ w. tt)) in
       record {
@@ -209,8 +211,8 @@ module _ {K V H : Type 0} (laws : Laws K V H) (o : IsTotalOrder laws.cmp) (eqv :
 
   parts_stay : (rounds : ℕ) (gaps left : List (OwnedGap K)) (reply : List ℕ) (before after : Found K V) (again : Option (Question K))
       → Steady rounds (λ k. total (λ g. times_in laws.cmp k (owned_gap g)) gaps) before
-      → HasParts laws n encoding values local gaps reply before after left → AsksAgain RowsIn left again → StaySteady rounds again after
-  parts_stay rounds gaps left reply before after again s (told, behind, rest, read, any, are, up, are_behind, is_left, taken) asks =
+      → PartsCome laws.cmp encoding values (λ rows. AddsRows laws local rows before after) gaps reply left → AsksAgain RowsIn left again → StaySteady rounds again after
+  parts_stay rounds gaps left reply before after again s (behind, rest, is_left, (told, read, any, are, up, (are_behind, taken))) asks =
       let (fit, left_times) = again_fit laws (side peer) root encoding RowsIn (λ g. ⊤) (λ k g. times_in laws.cmp k (owned_gap g)) rounds left again (λ xs e. e)
       (λ xs a. tt) (λ k xs. refl) asks (each-all (λ g. ⊤) left (λ g. tt)) in
       record {
@@ -272,27 +274,27 @@ module _ {K V H : Type 0} (laws : Laws K V H) (o : IsTotalOrder laws.cmp) (eqv :
       keeps (Some d) (inr (lacks, inl t)) = subst (λ f. AllByRecursion (Filled 257 0) f.nodes) (sym t) s.nodes
       keeps (Some d) (inr (lacks, inr t)) = subst (λ f. AllByRecursion (Filled 257 0) f.nodes) (sym t) s.nodes
 
-  pub stay : (digest_of : K → List ℕ) (asked question : Question K) (rounds : ℕ) (limits : Limits) (reply : List ℕ) (before after : Found K V)
+  pub stay : (asked question : Question K) (rounds : ℕ) (limits : Limits) (reply : List ℕ) (before after : Found K V)
       (again : Option (Question K)) → IsSteadyCatchUp laws (side peer) root (record { asked = asked; found = before; rounds = rounds; left = limits })
-      → SameQuestion laws.cmp encoding asked question → IsReply laws.cmp laws.bytes_of encoding values digest_of n peer.rows peer.tree question reply
+      → SameQuestion laws.cmp encoding asked question → IsReply laws n encoding values peer.rows peer.tree question reply
       → HasTakenReply laws n encoding values local asked reply before after again → StaySteady rounds again after
-  stay digest_of (Root a) (Root b) rounds limits reply before after again s same (settings, sent) (count, digest, read, taken, none) =
+  stay (Root a) (Root b) rounds limits reply before after again s same (settings, sent) (count, digest, read, taken, none) =
       let is = root_tells laws o eqv encoding values tell n local peer root sides small count (length peer.rows) digest
       (whole_digest (whole_item peer.tree.format laws.bytes_of tree)) (sym read ∙ sent) in
       subst (λ x. StaySteady rounds x after) (sym none)
       (record { fit = tt; steady = root_stays rounds digest before after s.asked (record { below = s.below; nodes = s.nodes; once = s.once }) is taken })
-  stay digest_of (Outlines m gs) (Outlines m' hs) rounds limits reply before after again s same (told', answers, sent) (left, has, asks) =
+  stay (Outlines m gs) (Outlines m' hs) rounds limits reply before after again s same (told', answers, sent) (left, has, asks) =
       outlines_stay true outlines_kind (Outlines m) rounds rounds gs.items hs.items left reply before after again told' (λ xs e. (e, s.some.1)) (λ xs a. a) (λ k xs. refl) (λ with. refl) s.asked
       (record { below = s.below; nodes = s.nodes; once = s.once }) same answers sent has asks
-  stay digest_of (Nodes m gs) (Nodes m' hs) rounds limits reply before after again s same (told', answers, sent) (left, has, asks) =
+  stay (Nodes m gs) (Nodes m' hs) rounds limits reply before after again s same (told', answers, sent) (left, has, asks) =
       outlines_stay false nodes_kind (Nodes m) 0 rounds gs.items hs.items left reply before after again told' (λ xs e. (e, s.some.1)) (λ xs a. a) (λ k xs. refl)
       (λ with. let never : false ≡ true = with in absurd (cc)) s.asked
       (record { below = s.below; nodes = s.nodes; once = s.once }) same answers sent has asks
-  stay digest_of (RowsAt ws) (RowsAt xs) rounds limits reply before after again s same (told', answers, sent) (left, has, asks) =
+  stay (RowsAt ws) (RowsAt xs) rounds limits reply before after again s same (told', answers, sent) (left, has, asks) =
       values_stay rounds ws.items left reply before after again (record { below = s.below; nodes = s.nodes; once = s.once }) has asks
-  stay digest_of (RowsIn gs) (RowsIn hs) rounds limits reply before after again s same (told', answers, sent) (left, has, asks) =
+  stay (RowsIn gs) (RowsIn hs) rounds limits reply before after again s same (told', answers, sent) (left, has, asks) =
       parts_stay rounds gs.items left reply before after again (record { below = s.below; nodes = s.nodes; once = s.once }) has asks
-  stay digest_of asked question rounds limits reply before after again s same is taken = absurd same
+  stay asked question rounds limits reply before after again s same is taken = absurd same
 
   -- the reply can be taken
   module _ (is_key : K → Type 0) (is_value : V → Type 0) (told : CanBeTold laws is_key is_value (side peer)) where
@@ -316,46 +318,31 @@ module _ {K V H : Type 0} (laws : Laws K V H) (o : IsTotalOrder laws.cmp) (eqv :
     whole_page (page l c (high h)) = tt
     whole_page (page l c (node h k d r)) = digest_length peer.tree.format laws.bytes_of (page l c (node h k d r))
 
-    pub can_be_taken : (digest_of : K → List ℕ) (asked question : Question K) (rounds : ℕ) (reply : List ℕ) → AsksForSome asked
+    pub can_be_taken : (asked question : Question K) (rounds : ℕ) (reply : List ℕ) → AsksForSome asked
         → AsksForPages laws (side peer) root rounds asked → SameQuestion laws.cmp encoding asked question
-        → IsReply laws.cmp laws.bytes_of encoding values digest_of n peer.rows peer.tree question reply → IsFit laws.cmp is_key is_value encoding values n asked reply
-    can_be_taken digest_of (Root a) (Root b) rounds reply some pages same (settings, sent) = (
-      count_bytes (length peer.rows) ++ option_bytes (λ d. d) (whole_digest (whole_item peer.tree.format laws.bytes_of tree)),
-      (length peer.rows, whole_digest (whole_item peer.tree.format laws.bytes_of tree), told.few, whole_page tree, refl),
-      sent ∙ append_assoc (front root_kind) (count_bytes (length peer.rows)) (option_bytes (λ d. d) (whole_digest (whole_item peer.tree.format laws.bytes_of tree))),
-    )
-    can_be_taken digest_of (Outlines m gs) (Outlines m' hs) rounds reply some pages same (told', answers, sent) = (
-      flat_map (outline_over_bytes encoding values) told',
-      answers_say (SameGapTold laws.cmp encoding) (λ t. outline_bytes encoding values (bound_key encoding [] t.0.after) t.1) (λ t u e i. outline_bytes encoding values (e.0.1 i) (e.1 i)) InTree
-          (λ g. IsOutlineIn laws.cmp is_key is_value n true (owned_gap g)) (λ h x. Told true (h, x)) (λ g h x. says true g h x) gs.items hs.items told' same some.0
-          (each-with (λ g. Filled 257 rounds (owned_gap g)) InTree gs.items (λ g. in_tree 257 rounds g) pages) answers,
-      sent,
-    )
-    can_be_taken digest_of (Nodes m gs) (Nodes m' hs) rounds reply some pages same (told', answers, sent) = (
-      flat_map (outline_over_bytes encoding values) told',
-      answers_say (SameGapTold laws.cmp encoding) (λ t. outline_bytes encoding values (bound_key encoding [] t.0.after) t.1) (λ t u e i. outline_bytes encoding values (e.0.1 i) (e.1 i)) InTree
-          (λ g. IsOutlineIn laws.cmp is_key is_value n false (owned_gap g)) (λ h x. Told false (h, x)) (λ g h x. says false g h x) gs.items hs.items told' same some.0
-          (each-with (λ g. Filled 257 0 (owned_gap g)) InTree gs.items (λ g. in_tree 257 0 g) pages) answers,
-      sent,
-    )
-    can_be_taken digest_of (RowsAt ws) (RowsAt xs) rounds reply some pages same (told', answers, sent) = (
-      flat_map (value_at_bytes values) told',
-      answers_say (SameWanted laws.cmp encoding) (λ t. option_bytes values t.1) (λ t u e. ap (option_bytes values) e.1) (λ w. ⊤)
-          (λ w. IsOption is_value) (λ w value. value ≡ get laws.cmp peer.rows w.key)
-          (λ w x value e f is. value_said laws o is_key is_value (side peer) told x value is) ws.items xs.items told' same some
-          (each-all (λ w. ⊤) ws.items (λ w. tt)) answers,
-      sent,
-    )
-    can_be_taken digest_of (RowsIn gs) (RowsIn hs) rounds reply some pages same (told', answers, sent) = (
-      flat_map (part_in_bytes encoding values) told',
-      answers_say (SameGapTold laws.cmp encoding) (λ t. part_bytes encoding values (bound_key encoding [] t.0.after) t.1) (λ t u e i. part_bytes encoding values (e.0.1 i) (e.1 i)) (λ g. ⊤)
-          (λ g. IsPartIn laws.cmp is_key is_value (owned_gap g)) (IsPartOf laws.cmp peer.rows)
-          (λ g h part e f is. part_said laws o is_key is_value (side peer) told (owned_gap g) h part sides.up_peer
-          (same_gap-back laws.cmp o (owned_gap g) (owned_gap h) e.0) is) gs.items hs.items told' same some
-          (each-all (λ g. ⊤) gs.items (λ g. tt)) answers,
-      sent,
-    )
-    can_be_taken digest_of asked question rounds reply some pages same is = absurd same
+        → IsReply laws n encoding values peer.rows peer.tree question reply → IsFit laws.cmp is_key is_value encoding values n asked reply
+    can_be_taken (Root a) (Root b) rounds reply some pages same (settings, sent) =
+        (length peer.rows, whole_digest (whole_item peer.tree.format laws.bytes_of tree), told.few, whole_page tree, sent)
+    can_be_taken (Outlines m gs) (Outlines m' hs) rounds reply some pages same (told', answers, sent) =
+        answers_say (SameGapTold laws.cmp encoding) (λ t. outline_bytes encoding values (bound_key encoding [] t.0.after) t.1) (λ t u e i. outline_bytes encoding values (e.0.1 i) (e.1 i)) InTree
+        (λ g. IsOutlineIn laws.cmp is_key is_value n true (owned_gap g)) (λ h x. Told true (h, x)) (λ g h x. says true g h x) outlines_kind reply gs.items hs.items told' same some.0
+        (each-with (λ g. Filled 257 rounds (owned_gap g)) InTree gs.items (λ g. in_tree 257 rounds g) pages) answers sent
+    can_be_taken (Nodes m gs) (Nodes m' hs) rounds reply some pages same (told', answers, sent) =
+        answers_say (SameGapTold laws.cmp encoding) (λ t. outline_bytes encoding values (bound_key encoding [] t.0.after) t.1) (λ t u e i. outline_bytes encoding values (e.0.1 i) (e.1 i)) InTree
+        (λ g. IsOutlineIn laws.cmp is_key is_value n false (owned_gap g)) (λ h x. Told false (h, x)) (λ g h x. says false g h x) nodes_kind reply gs.items hs.items told' same some.0
+        (each-with (λ g. Filled 257 0 (owned_gap g)) InTree gs.items (λ g. in_tree 257 0 g) pages) answers sent
+    can_be_taken (RowsAt ws) (RowsAt xs) rounds reply some pages same (told', answers, sent) =
+        answers_say (SameWanted laws.cmp encoding) (λ t. option_bytes values t.1) (λ t u e. ap (option_bytes values) e.1) (λ w. ⊤)
+        (λ w. IsOption is_value) (λ w value. value ≡ get laws.cmp peer.rows w.key)
+        (λ w x value e f is. value_said laws o is_key is_value (side peer) told x value is) rows_at_kind reply ws.items xs.items told' same some
+        (each-all (λ w. ⊤) ws.items (λ w. tt)) answers sent
+    can_be_taken (RowsIn gs) (RowsIn hs) rounds reply some pages same (told', answers, sent) =
+        answers_say (SameGapTold laws.cmp encoding) (λ t. part_bytes encoding values (bound_key encoding [] t.0.after) t.1) (λ t u e i. part_bytes encoding values (e.0.1 i) (e.1 i)) (λ g. ⊤)
+        (λ g. IsPartIn laws.cmp is_key is_value (owned_gap g)) (IsPartOf laws.cmp peer.rows)
+        (λ g h part e f is. part_said laws o is_key is_value (side peer) told (owned_gap g) h part sides.up_peer
+        (same_gap-back laws.cmp o (owned_gap g) (owned_gap h) e.0) is) rows_in_kind reply gs.items hs.items told' same some
+        (each-all (λ g. ⊤) gs.items (λ g. tt)) answers sent
+    can_be_taken asked question rounds reply some pages same is = absurd same
 
     -- of rows with twins a key is found twice
     twins_twice : (rows : List (K × V)) (k : K) → HaveTwins laws.cmp rows → (j : K) × (2 ≤ total (λ r. times_at laws.cmp j r.0) rows)
@@ -370,25 +357,25 @@ module _ {K V H : Type 0} (laws : Laws K V H) (o : IsTotalOrder laws.cmp) (eqv :
     no_more_rounds rounds (g ∷ gaps) many some ((t, f, low), a) = absurd (omega (arith, many, low))
 
     -- so it fails only when out of memory or at a limit
-    pub memory_alone : (digest_of : K → List ℕ) (before : Underway K V) (question : Question K) (reply : List ℕ) (error : SessionError)
+    pub memory_alone : (before : Underway K V) (question : Question K) (reply : List ℕ) (error : SessionError)
         → IsSteadyCatchUp laws (side peer) root before → SameQuestion laws.cmp encoding before.asked question
-        → IsReply laws.cmp laws.bytes_of encoding values digest_of n peer.rows peer.tree question reply
+        → IsReply laws n encoding values peer.rows peer.tree question reply
         → IsStopped laws n encoding values is_key is_value local before reply error → IsMemoryOrLimit error
-    memory_alone digest_of before question reply error s same is = by error
+    memory_alone before question reply error s same is = by error
       where
         fit : IsFit laws.cmp is_key is_value encoding values n before.asked reply
-        fit = can_be_taken digest_of before.asked question before.rounds reply s.some s.asked same is
+        fit = can_be_taken before.asked question before.rounds reply s.some s.asked same is
 
         twice : (found : Found K V) → HasTakenReply laws n encoding values local before.asked reply before.found found None → HaveTwins laws.cmp found.rows → ⊥
         twice found taken twins =
             let (k, many) = twins_twice found.rows twins.0.0 twins in
-            absurd (omega (arith, many, (stay digest_of before.asked question before.rounds before.left reply before.found found None s same is taken).steady.once k))
+            absurd (omega (arith, many, (stay before.asked question before.rounds before.left reply before.found found None s same is taken).steady.once k))
 
         by : (e : SessionError) → IsStopped laws n encoding values is_key is_value local before reply e → IsMemoryOrLimit e
-        by Memory stopped = tt
-        by (Limit limit) stopped = tt
+        by Memory stopped = inl refl
+        by (Limit limit) stopped = inr (limit, refl)
         by TooManyRounds (many, found, taken, some) =
-            absurd (no_more_rounds before.rounds found.below many some (stay digest_of before.asked question before.rounds before.left reply before.found found None s same is taken).steady.below)
+            absurd (no_more_rounds before.rounds found.below many some (stay before.asked question before.rounds before.left reply before.found found None s same is taken).steady.below)
         by Twice (found, taken, done, twins) = absurd (twice found taken twins)
         by (Malformed e) stopped = absurd (stopped fit)
         by OtherKind stopped = absurd (stopped fit)

@@ -15,14 +15,12 @@ use Rattle.merkle_tree_theory.specs.State.{SameSettings}
 use Rattle.merkle_tree_theory.specs.Stream.{page_digest}
 use Rattle.merkle_tree_theory.specs.Tree.{Tree}
 use Rattle.merkle_tree_theory.specs.declared.page_format.PageFormat.{PageFormat}
-use Rattle.merkle_wire.specs.Asking.{AsksForSome}
+use Rattle.merkle_wire.specs.Underway.{AsksForSome, nothing, Underway}
 use Rattle.merkle_wire.specs.Faults.{AreOtherSettings, IsUnread}
-use Rattle.merkle_wire.specs.Found.{nothing}
 use Rattle.merkle_wire.specs.Next.{IsNext, IsStopped, IfAsks}
 use Rattle.merkle_wire.specs.Questions.{question_bytes}
 use Rattle.merkle_wire.specs.Replies.{IsReply}
-use Rattle.merkle_wire.specs.Sessions.{CanBeTold, IsMemoryOrLimit}
-use Rattle.merkle_wire.specs.Underway.{Underway}
+use Rattle.merkle_wire.specs.Sessions.{CanBeTold}
 use Rattle.merkle_wire.specs.declared.answering.AnswerError.{AnswerError}
 use Rattle.merkle_wire.specs.declared.answering.AnswerError.TheVariants as answer
 use Rattle.merkle_wire.specs.declared.catching_up.Next.{Next}
@@ -41,11 +39,11 @@ use Rattle.merkle_wire.proofs.PagesLacked.{TellsOwnPages}
 use Rattle.merkle_wire.proofs.TellingQuestions.{SameQuestion, question_tells}
 use Rattle.merkle_wire.proofs.SessionEnds.{leaves_less}
 use Rattle.merkle_wire.proofs.AskedNext.{next_steady}
-use Rattle.merkle_wire.proofs.SteadyCatchUps.{memory_alone, stay}
-use Rattle.merkle_wire.specs.Cost.{entries_taken}
+use Rattle.merkle_wire.proofs.SteadyCatchUps.{memory_alone, stay, IsMemoryOrLimit}
 use Rattle.merkle_wire.specs.declared.message.Kind.TheVariants.{Outlines as outlines_kind, Nodes as nodes_kind, RowsAt as rows_at_kind}
 use Rattle.merkle_wire.proofs.Covering.{Covers, CoversNext, ForItsTrees}
 use Rattle.merkle_wire.proofs.Steady.{AsksForPages, HasKeysOfSides, IsFilled, IsSteadyCatchUp, times_asked, times_found, left_for}
+use Rattle.merkle_wire.specs.SessionLaws.{entries_taken}
 
 -- what comes of a reply: where it is taken, what comes next covers what is missing, is steady, leaves less to ask for, and has keys of the two sides alone;
 -- and it is refused only when out of memory
@@ -69,9 +67,9 @@ module _ {K V H : Type 0} (laws : Laws K V H) (o : IsTotalOrder laws.cmp) (eqv :
     (encoding : K → List ℕ) (values : V → List ℕ) (tell : Tell laws encoding values) (n : ℕ) (local : Side K V H) (up : IsMap laws.cmp local.rows)
     (met peer : Contents K V H) (rows : peer.rows ≡ met.rows) (settings : SameSettings met.tree peer.tree)
     (kept : IsKept laws.cmp laws.value_digest peer) (canonical : IsCanonicalRoot (λ k. level_of (laws.key_digest peer.tree.hasher k) peer.tree.base) peer.tree.root) where
-  module _ (digest_of : K → List ℕ) (before : Underway K V) (question : Question K) (message reply : List ℕ) (asked : message ≡ question_bytes encoding before.asked)
+  module _ (before : Underway K V) (question : Question K) (message reply : List ℕ) (asked : message ≡ question_bytes encoding before.asked)
       (read : message ≡ question_bytes encoding question)
-      (is : IsReply laws.cmp laws.bytes_of encoding values digest_of n met.rows peer.tree question reply) where
+      (is : IsReply laws n encoding values met.rows peer.tree question reply) where
     same : side peer ≡ side met
     same = same_side met peer rows settings
 
@@ -85,8 +83,8 @@ module _ {K V H : Type 0} (laws : Laws K V H) (o : IsTotalOrder laws.cmp) (eqv :
     alike : SameQuestion laws.cmp encoding before.asked question
     alike = question_tells laws.cmp encoding tell.keys before.asked question (sym asked ∙ read)
 
-    replies : IsReply laws.cmp laws.bytes_of encoding values digest_of n peer.rows peer.tree question reply
-    replies = subst (λ rs. IsReply laws.cmp laws.bytes_of encoding values digest_of n rs peer.tree question reply) (sym rows) is
+    replies : IsReply laws n encoding values peer.rows peer.tree question reply
+    replies = subst (λ rs. IsReply laws n encoding values rs peer.tree question reply) (sym rows) is
 
     -- what comes next is steady
     stays_steady : (next : Next K V) → IsNext laws n encoding values local before reply next
@@ -94,7 +92,7 @@ module _ {K V H : Type 0} (laws : Laws K V H) (o : IsTotalOrder laws.cmp) (eqv :
     stays_steady next (found, again, taken, goes) root of_peer small steady =
         let here = subst (λ s. IsSteadyCatchUp laws s root before) (sym same) steady in
         let t = stay laws o eqv encoding values tell n local peer root (sides root of_peer small)
-        (lengths small) digest_of before.asked question before.rounds before.left reply before.found found again here alike replies taken in
+        (lengths small) before.asked question before.rounds before.left reply before.found found again here alike replies taken in
         subst (λ s. IfAsks (IsSteadyCatchUp laws s root) next) same (next_steady laws (side peer) root encoding again before.rounds found next t.fit t.steady goes)
 
     -- it leaves less to ask for
@@ -102,7 +100,7 @@ module _ {K V H : Type 0} (laws : Laws K V H) (o : IsTotalOrder laws.cmp) (eqv :
         → ForItsTrees laws n (side met) (λ root. IsSteadyCatchUp laws (side met) root before → IfAsks (λ after. left_for laws (side met) root after < left_for laws (side met) root before) next)
     goes_on_less next comes root of_peer small steady =
         subst (λ s. IfAsks (λ after. left_for laws s root after < left_for laws s root before) next) same
-        (leaves_less laws o eqv encoding values tell n local peer root (sides root of_peer small) (lengths small) digest_of before question reply next
+        (leaves_less laws o eqv encoding values tell n local peer root (sides root of_peer small) (lengths small) before question reply next
         (subst (λ s. IsSteadyCatchUp laws s root before) (sym same) steady) alike replies comes)
 
     -- and has keys of the two sides alone
@@ -111,7 +109,7 @@ module _ {K V H : Type 0} (laws : Laws K V H) (o : IsTotalOrder laws.cmp) (eqv :
     stays_at_keys next comes keys small =
         let of_met = subst (λ s. IsTreeOf laws.cmp (laws.key_digest s.hasher) s.base peer.tree.root (tree_map laws s)) same (canonical, kept.digested) in
         subst (λ s. IfAsks (HasKeysOfSides laws local s) next) same
-        (next_keys laws o eqv encoding values tell n local peer peer.tree.root (sides peer.tree.root of_met small) (lengths small) digest_of before question reply next
+        (next_keys laws o eqv encoding values tell n local peer peer.tree.root (sides peer.tree.root of_met small) (lengths small) before question reply next
         (subst (λ s. HasKeysOfSides laws local s before) (sym same) keys) alike replies comes)
 
     -- and the reply fails only when out of memory or at a limit
@@ -119,7 +117,7 @@ module _ {K V H : Type 0} (laws : Laws K V H) (o : IsTotalOrder laws.cmp) (eqv :
         → ForItsTrees laws n (side met) (λ root. IsSteadyCatchUp laws (side met) root before → CanBeTold laws is_key is_value (side met) → IsMemoryOrLimit error)
     stops_for_memory is_key is_value error stopped root of_peer small steady told =
         memory_alone laws o eqv encoding values tell n local peer root (sides root of_peer small) (lengths small) is_key is_value
-        (subst (CanBeTold laws is_key is_value) (sym same) told) digest_of before question reply error
+        (subst (CanBeTold laws is_key is_value) (sym same) told) before question reply error
         (subst (λ s. IsSteadyCatchUp laws s root before) (sym same) steady) alike replies stopped
 
     -- and what it tells of pages is paid for
@@ -132,7 +130,7 @@ module _ {K V H : Type 0} (laws : Laws K V H) (o : IsTotalOrder laws.cmp) (eqv :
     exchanged_pays one_digest is_there tells next takes root of_peer small steady =
         subst (λ s. PayFor laws s root is_there (entries_taken laws n encoding values local outlines_kind before.asked reply before.found takes.0 takes.1 takes.2)
         (entries_taken laws n encoding values local nodes_kind before.asked reply before.found takes.0 takes.1 takes.2) before next) same
-        (exchange_pays laws o eqv encoding values tell n local peer root (sides root of_peer small) (lengths small) one_digest is_there tells digest_of before question reply next
+        (exchange_pays laws o eqv encoding values tell n local peer root (sides root of_peer small) (lengths small) one_digest is_there tells before question reply next
         (subst (λ s. IsSteadyCatchUp laws s root before) (sym same) steady) alike replies takes)
 
     -- so are the values that it tells at keys
@@ -142,14 +140,14 @@ module _ {K V H : Type 0} (laws : Laws K V H) (o : IsTotalOrder laws.cmp) (eqv :
         → PayForKeys laws local (side met) root (entries_taken laws n encoding values local rows_at_kind before.asked reply before.found takes.0 takes.1 takes.2) before next
     exchanged_pays_for_keys next takes root of_peer small wants lacked =
         subst (λ s. PayForKeys laws local s root (entries_taken laws n encoding values local rows_at_kind before.asked reply before.found takes.0 takes.1 takes.2) before next) same
-        (exchange_pays_for_keys laws o eqv encoding values tell n local peer root (sides root of_peer small) (lengths small) digest_of before question reply next
+        (exchange_pays_for_keys laws o eqv encoding values tell n local peer root (sides root of_peer small) (lengths small) before question reply next
         (subst (λ s. Wants laws local s before.found) (sym same) wants) (subst (λ s. AsksLacked laws local s before.asked) (sym same) lacked) alike replies takes)
 
     pub comes : Comes laws n encoding values local (side met) before reply
     comes = record {
       covers = λ next goes root of_peer small covers.
           exchanged laws o eqv respects one_tree encoding values tell n local up met peer rows settings kept canonical
-          (subst (HasSmallMap laws n) (sym same) small) digest_of before question message reply next asked read is goes
+          (subst (HasSmallMap laws n) (sym same) small) before question message reply next asked read is goes
           root of_peer covers;
       steady = stays_steady;
       less = goes_on_less;

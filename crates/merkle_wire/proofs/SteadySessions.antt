@@ -12,9 +12,9 @@ use Rattle.merkle_tree_theory.specs.Gap.{Gap}
 use Rattle.merkle_tree_theory.specs.Stream.{page_digest}
 use Rattle.merkle_tree_theory.specs.Tree.{Tree}
 use Rattle.merkle_tree_theory.specs.declared.page_format.PageFormat.{PageFormat}
-use Rattle.merkle_wire.specs.Cost.{lacked_of_tree, entries_taken}
+use Rattle.merkle_wire.specs.SessionLaws.{lacked_of_tree, entries_told, told_in, IsPeerReply, IsExchange, AreExchangesTo, IsBegun, entries_taken}
 use Rattle.merkle_wire.specs.Next.{IsNext, IsStopped, IfAsks}
-use Rattle.merkle_wire.specs.Sessions.{CanBeTold, IsMemoryOrLimit}
+use Rattle.merkle_wire.specs.Sessions.{CanBeTold}
 use Rattle.merkle_wire.specs.Taking.{new_keys}
 use Rattle.merkle_wire.specs.Underway.{Underway}
 use Rattle.merkle_wire.specs.declared.catching_up.Next.{Next}
@@ -27,8 +27,9 @@ use Rattle.merkle_wire.proofs.PagesLacked.{TellsOwnPages}
 use Rattle.merkle_wire.proofs.SteadyExchanges.{Comes, begun_steady, comes, exchanged_pays, exchanged_pays_for_keys}
 use Rattle.merkle_wire.proofs.Times.{total-less}
 use Rattle.merkle_wire.specs.declared.message.Kind.TheVariants.{Outlines as outlines_kind, Nodes as nodes_kind, RowsAt as rows_at_kind}
-use Rattle.merkle_wire.specs.SessionLaws.{entries_told, told_in, IsPeerReply, IsExchange, AreExchangesTo, IsBegun}
 use Rattle.merkle_wire.proofs.Steady.{IsSteadyCatchUp, left_by, left_for, left_of, total}
+use Rattle.merkle_wire.proofs.SteadyCatchUps.{IsMemoryOrLimit}
+use Rattle.merkle_wire.specs.Questions.{question_bytes}
 
 module _ {K V H : Type 0} (laws : Laws K V H) (o : IsTotalOrder laws.cmp) (eqv : IsEquivalence laws.eq)
     (respects : (h : H) (a b : V) → laws.eq a b ≡ true → laws.value_digest h a ≡ laws.value_digest h b)
@@ -51,7 +52,7 @@ module _ {K V H : Type 0} (laws : Laws K V H) (o : IsTotalOrder laws.cmp) (eqv :
 
     pub came : Comes laws n encoding values local peer before reply
     came = comes laws o eqv respects one_tree encoding values tell n local up (contents_of peer root) now refl a.settings kept tree.0
-        (laws.key_digest a.tree.hasher) before a.question a.message reply a.asks a.reads a.answers
+        before a.question (question_bytes encoding before.asked) reply refl a.reads a.answers
 
     answered_steady : (next : Next K V) → IsNext laws n encoding values local before reply next → IfAsks (IsSteadyCatchUp laws peer root) next
     answered_steady next takes = came.steady next takes root of_peer small steady
@@ -70,14 +71,14 @@ module _ {K V H : Type 0} (laws : Laws K V H) (o : IsTotalOrder laws.cmp) (eqv :
         (entries_taken laws n encoding values local nodes_kind before.asked reply before.found takes.0 takes.1 takes.2) before next
     answered_pays one_digest is_there tells next takes =
         exchanged_pays laws o eqv respects one_tree encoding values tell n local up (contents_of peer root) now refl a.settings kept tree.0
-        (laws.key_digest a.tree.hasher) before a.question a.message reply a.asks a.reads a.answers
+        before a.question (question_bytes encoding before.asked) reply refl a.reads a.answers
         one_digest is_there tells next takes root of_peer small steady
 
     answered_pays_for_keys : (next : Next K V) (takes : IsNext laws n encoding values local before reply next) → Wants laws local peer before.found → AsksLacked laws local peer before.asked
         → PayForKeys laws local peer root (entries_taken laws n encoding values local rows_at_kind before.asked reply before.found takes.0 takes.1 takes.2) before next
     answered_pays_for_keys next takes =
         exchanged_pays_for_keys laws o eqv respects one_tree encoding values tell n local up (contents_of peer root) now refl a.settings kept tree.0
-        (laws.key_digest a.tree.hasher) before a.question a.message reply a.asks a.reads a.answers
+        before a.question (question_bytes encoding before.asked) reply refl a.reads a.answers
         next takes root of_peer small
 
   -- so a session has no more exchanges than were to be asked for at first
@@ -102,9 +103,9 @@ module _ {K V H : Type 0} (laws : Laws K V H) (o : IsTotalOrder laws.cmp) (eqv :
       by (inr (root, of_peer)) =
           omega (
             arith,
-            chain_short root of_peer begun last more exchanges (begun_steady laws peer root begun b.settings b.asks_root b.nothing_found b.no_round),
-            ap (left_by laws peer root) b.asks_root,
-            ap (left_of laws peer root) b.nothing_found,
+            chain_short root of_peer begun last more exchanges (begun_steady laws peer root begun b.0 b.1 b.2 b.3),
+            ap (left_by laws peer root) b.1,
+            ap (left_of laws peer root) b.2,
           )
 
   -- and a catch-up that is steady stays so
@@ -121,7 +122,7 @@ module _ {K V H : Type 0} (laws : Laws K V H) (o : IsTotalOrder laws.cmp) (eqv :
         → IsStopped laws n encoding values is_key is_value local last reply error → IsMemoryOrLimit error
     answers_taken begun last more b exchanges reply error answer stopped =
         let root = answer.tree.root in
-        let steady = chain_steady root answer.of_peer begun last more exchanges (begun_steady laws peer root begun b.settings b.asks_root b.nothing_found b.no_round) in
+        let steady = chain_steady root answer.of_peer begun last more exchanges (begun_steady laws peer root begun b.0 b.1 b.2 b.3) in
         answered_for_memory last reply answer root answer.of_peer steady is_key is_value told error stopped
 
   -- the pages that are told in a session are paid for by those that the side hasn't
@@ -159,13 +160,13 @@ module _ {K V H : Type 0} (laws : Laws K V H) (o : IsTotalOrder laws.cmp) (eqv :
         × (nodes_in begun more last so_far + entries_told laws n encoding values local peer nodes_kind last next e
         ≤ pages_in begun more last so_far + entries_told laws n encoding values local peer outlines_kind last next e)
     session_pays begun last more next b so_far e =
-        let first = begun_steady laws peer root begun b.settings b.asks_root b.nothing_found b.no_round in
+        let first = begun_steady laws peer root begun b.0 b.1 b.2 b.3 in
         let chain = chain_pays begun last more so_far first in
         let steady = chain_steady root of_peer begun last more so_far first in
         let end = least (entries_told laws n encoding values local peer outlines_kind last next e) (entries_told laws n encoding values local peer nodes_kind last next e) last next
         (answered_pays last e.reply e.answer root of_peer steady one_digest is_there tells next e.takes) in (
-          omega (arith, chain.0, end.0, ap (pages_by laws peer root is_there) b.asks_root, ap (pages_of laws peer root is_there) b.nothing_found),
-          omega (arith, chain.1, end.1, ap (nodes_by laws peer root is_there) b.asks_root, ap (nodes_of laws peer root is_there) b.nothing_found),
+          omega (arith, chain.0, end.0, ap (pages_by laws peer root is_there) b.1, ap (pages_of laws peer root is_there) b.2),
+          omega (arith, chain.1, end.1, ap (nodes_by laws peer root is_there) b.1, ap (nodes_of laws peer root is_there) b.2),
         )
 
   -- so are the values that are told at keys, by those of the keys that the side lacks, or has with another digest
@@ -202,7 +203,7 @@ module _ {K V H : Type 0} (laws : Laws K V H) (o : IsTotalOrder laws.cmp) (eqv :
         omega (
           arith,
           total-less (λ p. asked_at laws peer root p.0 begun.asked + left_at laws peer root p.0 begun.found) (λ p. 1)
-              (λ p. omega (arith, ap (asked_at laws peer root p.0) b.asks_root, ap (left_at laws peer root p.0) b.nothing_found)) keys,
+              (λ p. omega (arith, ap (asked_at laws peer root p.0) b.1, ap (left_at laws peer root p.0) b.2)) keys,
           total_ones keys,
           length-map keys (λ p. p.0),
         )
@@ -211,8 +212,8 @@ module _ {K V H : Type 0} (laws : Laws K V H) (o : IsTotalOrder laws.cmp) (eqv :
         → (so_far : AreExchangesTo laws n encoding values local peer begun more last) (e : IsExchange laws n encoding values local peer last next)
         → keys_in begun more last so_far + entries_told laws n encoding values local peer rows_at_kind last next e ≤ length (new_keys laws local (tree_map laws peer))
     session_pays_for_keys begun last more next b so_far e =
-        let first = begun_steady laws peer root begun b.settings b.asks_root b.nothing_found b.no_round in
-        let limited : IsLimited begun = (subst (Wants laws local peer) (sym b.nothing_found) tt, subst (AsksLacked laws local peer) (sym b.asks_root) tt) in
+        let first = begun_steady laws peer root begun b.0 b.1 b.2 b.3 in
+        let limited : IsLimited begun = (subst (Wants laws local peer) (sym b.2) tt, subst (AsksLacked laws local peer) (sym b.1) tt) in
         let chain = chain_keys begun last more so_far first limited in
         let steady = chain_steady root of_peer begun last more so_far first in
         let end = keys_least (entries_told laws n encoding values local peer rows_at_kind last next e) last next

@@ -25,11 +25,11 @@ use Rattle.merkle_tree_theory.specs.Ranges.{IsPageIn}
 use Rattle.merkle_tree_theory.specs.Tree.{Tree, page, high, node, nothing, below}
 use Rattle.merkle_tree_theory.proofs.InGaps.{get_within}
 use Rattle.merkle_tree_theory.proofs.PagesIn.{itself}
-use Rattle.merkle_wire.specs.Found.{Found}
+use Rattle.merkle_wire.specs.Underway.{Found}
 use Rattle.merkle_wire.specs.Gaps.{owned_gap}
 use Rattle.merkle_wire.specs.Outlines.{Outline, IsTold}
 use Rattle.merkle_wire.specs.Replies.{Part, IsPartOf, whole_digest}
-use Rattle.merkle_wire.specs.Sessions.{IsFaithfulSession, IsRowOfPeer, IsNewRow}
+use Rattle.merkle_wire.specs.Sessions.{IsFaithfulSession, IsNewRow}
 use Rattle.merkle_wire.specs.Taking.{IsRootTaken, AreTaken, value_row, IsBehind, AreBehind}
 use Rattle.merkle_wire.specs.declared.gaps.OwnedGap.{OwnedGap}
 use Rattle.merkle_wire.specs.declared.wanted.Wanted.{Wanted}
@@ -37,7 +37,7 @@ use Rattle.merkle_wire.proofs.RoundCovers.{each-filter, theirs_alike, any_alike,
 use Rattle.merkle_wire.proofs.PageCovers.{AreSides, among-more, IsAbout, one_covers, one_keeps, one_new, none_hidden, at_tree}
 use Rattle.merkle_wire.proofs.PagesBelow.{in_gap-alike, get_behind}
 use Rattle.merkle_wire.proofs.TellingReplies.{SameRow, SameOutline, SamePart, SameFound}
-use Rattle.merkle_wire.proofs.Covering.{IsAmong}
+use Rattle.merkle_wire.proofs.Covering.{IsAmong, IsRowOfPeer}
 
 module _ {K V : Type 0} (cmp : K → K → Ordering) (o : IsTotalOrder cmp) where
   -- a map finds each of its pairs

@@ -1,11 +1,11 @@
 -- The gaps that are asked for: each is the gap that was told of, or it isn't asked for.
 use Rattle.std.specs.Prelude.{⊤}
-use Rattle.std.proofs.Common.{◌≡◌, ℕ, List, [], ◌∷◌, Some, inl, inr, sym, subst}
+use Rattle.std.proofs.Common.{◌≡◌, ℕ, List, [], ◌∷◌, Some, inl, inr, sym, subst, ◌⊎◌}
 use Rattle.merkle_replica.specs.Contents.{Side}
 use Rattle.merkle_replica.specs.Descent.{HasPage}
 use Rattle.merkle_replica.specs.Laws.{Laws}
 use Rattle.merkle_tree_theory.specs.Gap.{Gap, SameGap}
-use Rattle.merkle_wire.specs.Taking.{AreNewNodes, HasNodes, IsNewGap, IsOneGap}
+use Rattle.merkle_wire.specs.Taking.{HasNodes, IsNewGap, IsOneGap}
 
 module _ {K V H : Type 0} (laws : Laws K V H) (local : Side K V H) where
   -- a gap, up to equal keys, or none
@@ -13,6 +13,10 @@ module _ {K V H : Type 0} (laws : Laws K V H) (local : Side K V H) where
   IsGapOrNone gap [] = ⊤
   IsGapOrNone gap (own ∷ []) = SameGap laws.cmp gap own
   IsGapOrNone gap (own ∷ other ∷ others) = ⊥
+
+  -- nodes with this digest are those of the page over the gap: `new` is none where the side has all of them, and else the gap
+  abbrev pub AreNewNodes : Gap K → List K → List ℕ → List (Gap K) → Type 0
+  AreNewNodes gap keys digest new = ((new ≡ []) × HasNodes laws local keys digest) ⊎ (IsOneGap laws local gap new × ¬ HasNodes laws local keys digest)
 
   one_or_none : (gap : Gap K) (new : List (Gap K)) → IsOneGap laws local gap new → IsGapOrNone gap new
   one_or_none gap [] one = absurd one
@@ -33,10 +37,10 @@ module _ {K V H : Type 0} (laws : Laws K V H) (local : Side K V H) where
   page_spared gap d new (inr (one, lacks)) e = absurd (one_is_some gap new one e)
 
   -- the gap of nodes
-  pub nodes_or_none : (gap : Gap K) (keys : List K) (d : List ℕ) (new : List (Gap K)) → AreNewNodes laws local gap keys d new → IsGapOrNone gap new
+  pub nodes_or_none : (gap : Gap K) (keys : List K) (d : List ℕ) (new : List (Gap K)) → AreNewNodes gap keys d new → IsGapOrNone gap new
   nodes_or_none gap keys d new (inl (none, own)) = subst (IsGapOrNone gap) (sym none) tt
   nodes_or_none gap keys d new (inr (one, lacks)) = one_or_none gap new one
 
-  pub nodes_spared : (gap : Gap K) (keys : List K) (d : List ℕ) (new : List (Gap K)) → AreNewNodes laws local gap keys d new → new ≡ [] → HasNodes laws local keys d
+  pub nodes_spared : (gap : Gap K) (keys : List K) (d : List ℕ) (new : List (Gap K)) → AreNewNodes gap keys d new → new ≡ [] → HasNodes laws local keys d
   nodes_spared gap keys d new (inl (none, own)) e = own
   nodes_spared gap keys d new (inr (one, lacks)) e = absurd (one_is_some gap new one e)

@@ -7,12 +7,13 @@ use Rattle.std.proofs.lemmas.List.{map-append}
 use Rattle.merkle_replica.specs.Contents.{Side}
 use Rattle.merkle_replica.specs.Laws.{Laws}
 use Rattle.merkle_tree_theory.specs.Gap.{Gap}
-use Rattle.merkle_wire.specs.Found.{Found}
+use Rattle.merkle_wire.specs.Underway.{Found}
 use Rattle.merkle_wire.specs.Gaps.{owned_gap}
 use Rattle.merkle_wire.specs.Outlines.{Outline}
 use Rattle.merkle_wire.specs.Replies.{Part}
-use Rattle.merkle_wire.specs.Taking.{IsPageTaken, AreTaken, IsBehind, AreBehind, has_digest, has_row, new_rows, new_keys}
+use Rattle.merkle_wire.specs.Taking.{IsPageTaken, AreTaken, IsBehind, AreBehind, has_digest, new_keys}
 use Rattle.merkle_wire.specs.declared.gaps.OwnedGap.{OwnedGap}
+use Rattle.merkle_wire.proofs.Lacking.{has_row, new_rows}
 
 module _ {K V : Type 0} (cmp : K → K → Ordering) where
   pub behind-more : (ts : List (OwnedGap K × Part K V)) (t : OwnedGap K × Part K V) (left more : List (OwnedGap K))

@@ -7,11 +7,11 @@ use Rattle.key_order.specs.Order.{Same}
 use Rattle.merkle_bytes.specs.Counts.{count_bytes, count_told}
 use Rattle.merkle_bytes.specs.Keys.{key_behind}
 use Rattle.merkle_bytes.specs.RunTelling.{behind_told}
-use Rattle.merkle_bytes.specs.Runs.{bound_behind, bound_key}
+use Rattle.merkle_bytes.specs.Runs.{bound_behind, bound_key, run_bytes}
 use Rattle.merkle_bytes.proofs.Listed.{run_told}
 use Rattle.merkle_tree_theory.specs.Gap.{SameBound, SameGap}
 use Rattle.merkle_wire.specs.Gaps.{owned_gap, gap_behind, gap_key}
-use Rattle.merkle_wire.specs.Questions.{question_bytes, gaps_bytes, keys_bytes}
+use Rattle.merkle_wire.specs.Questions.{question_bytes, gaps_bytes}
 use Rattle.merkle_wire.specs.declared.gaps.OwnedGap.{OwnedGap}
 use Rattle.merkle_wire.specs.declared.question.Question.{Question}
 use Rattle.merkle_wire.specs.declared.question.Question.TheVariants.{Root, Outlines, Nodes, RowsAt, RowsIn}
@@ -77,7 +77,11 @@ module _ {K : Type 0} (cmp : K → K → Ordering) (encoding : K → List ℕ) (
       → (SameWanted cmp encoding) w x × (encoding w.key ≡ encoding x.key) × (r ≡ s)
   wanted_tell last w x r s e = let both = behind_told last (encoding w.key) (encoding x.key) r s e in (tells w.key x.key both.0, both.0, both.1)
 
-  keys_tell : (ws xs : List (Wanted K)) → keys_bytes encoding [] ws ≡ keys_bytes encoding [] xs → AllZip (SameWanted cmp encoding) ws xs
+  -- keys, each after the one before
+  abbrev pub keys_bytes : List (Wanted K) → List ℕ
+  keys_bytes = run_bytes (λ last w. key_behind last (encoding w.key)) (λ last w. encoding w.key) []
+
+  keys_tell : (ws xs : List (Wanted K)) → keys_bytes ws ≡ keys_bytes xs → AllZip (SameWanted cmp encoding) ws xs
   keys_tell ws xs e = (run_told (λ last w. key_behind last (encoding w.key)) (λ last w. encoding w.key) (SameWanted cmp encoding) wanted_tell [] ws xs [] [] (ap (λ t. t ++ []) e)).0
 
   counted_tell : (m n : ℕ) (gs hs : List (OwnedGap K)) → count_bytes m ++ gaps_bytes encoding gs ≡ count_bytes n ++ gaps_bytes encoding hs → AllZip (SameGapTold cmp encoding) gs hs
@@ -88,6 +92,6 @@ module _ {K : Type 0} (cmp : K → K → Ordering) (encoding : K → List ℕ) (
   question_tells (Outlines m gs) (Outlines n hs) e = counted_tell m n gs.items hs.items
       (same_rest 1 2 (count_bytes m ++ gaps_bytes encoding gs.items) (count_bytes n ++ gaps_bytes encoding hs.items) e)
   question_tells (Nodes m gs) (Nodes n hs) e = counted_tell m n gs.items hs.items (same_rest 1 3 (count_bytes m ++ gaps_bytes encoding gs.items) (count_bytes n ++ gaps_bytes encoding hs.items) e)
-  question_tells (RowsAt ws) (RowsAt xs) e = keys_tell ws.items xs.items (same_rest 1 4 (keys_bytes encoding [] ws.items) (keys_bytes encoding [] xs.items) e)
+  question_tells (RowsAt ws) (RowsAt xs) e = keys_tell ws.items xs.items (same_rest 1 4 (keys_bytes ws.items) (keys_bytes xs.items) e)
   question_tells (RowsIn gs) (RowsIn hs) e = gaps_tell gs.items hs.items (same_rest 1 5 (gaps_bytes encoding gs.items) (gaps_bytes encoding hs.items) e)
   question_tells x y e = absurd (omega (arith, ap second e))

@@ -1,5 +1,5 @@
 -- What is taken of a reply: a key is found as often as it was asked about, at most.
-use Rattle.std.proofs.Common.{◌≡◌, ℕ, ◌+◌, ◌≤◌, Bool, true, false, not, List, [], ◌∷◌, map, flat_map, Option, Some, None, refl, sym, ap, subst, inl, inr, arith}
+use Rattle.std.proofs.Common.{◌≡◌, ℕ, ◌+◌, ◌≤◌, Bool, true, false, not, List, [], ◌∷◌, map, flat_map, Option, Some, None, refl, sym, ap, subst, inl, inr, arith, ◌++◌}
 use Rattle.std.specs.List.{AllByRecursion, filter, AllZip}
 use Rattle.std.specs.Cmp.{IsTotalOrder}
 use Rattle.key_order.specs.Map.{SameMap, last_key}
@@ -12,11 +12,11 @@ use Rattle.merkle_tree_theory.specs.Gap.{Gap, SameGap, everywhere, part_behind}
 use Rattle.merkle_tree_theory.specs.Outline.{outline_over}
 use Rattle.merkle_tree_theory.specs.Tree.{Tree}
 use Rattle.merkle_wire.specs.Coming.{AscendIn, LiesIn}
-use Rattle.merkle_wire.specs.Found.{Found}
+use Rattle.merkle_wire.specs.Underway.{Found}
 use Rattle.merkle_wire.specs.Gaps.{owned_gap}
 use Rattle.merkle_wire.specs.Outlines.{Outline, rows_told, digests_told, page_told, IsTold, keys_among, nodes_among, AreRowsAt}
 use Rattle.merkle_wire.specs.Replies.{Part}
-use Rattle.merkle_wire.specs.Taking.{AddsKeys, AddsRows, AreBehind, AreTaken, IsBehind, IsRootTaken, IsPageTaken, has_digest, has_row, new_keys, new_rows, value_row}
+use Rattle.merkle_wire.specs.Taking.{AddsRows, AreBehind, AreTaken, IsBehind, IsRootTaken, IsPageTaken, has_digest, new_keys, value_row}
 use Rattle.merkle_wire.specs.declared.gaps.OwnedGap.{OwnedGap}
 use Rattle.merkle_wire.specs.declared.wanted.Wanted.{Wanted}
 use Rattle.merkle_wire.proofs.SameNodes.{keys_over-same}
@@ -24,6 +24,7 @@ use Rattle.merkle_wire.proofs.TakenGaps.{IsGapOrNone, nodes_or_none}
 use Rattle.merkle_wire.proofs.TellingReplies.{SameOutline, SameRow}
 use Rattle.merkle_wire.proofs.Times.{ascend_and_behind, ascend_times, at-same, in-alike, new_gaps_times, total-append, total-filter, total-mapped, total-same}
 use Rattle.merkle_wire.proofs.Steady.{times_at, times_found, times_in, times_over, total}
+use Rattle.merkle_wire.proofs.Lacking.{has_row, new_rows}
 
 module _ {K V H : Type 0} (laws : Laws K V H) (o : IsTotalOrder laws.cmp) (local peer : Side K V H) (root tree : Tree K (List ℕ)) (pages_same : SamePages laws.cmp root tree) (n : ℕ) (k : K) where
   abbrev at : K → ℕ
@@ -73,7 +74,8 @@ module _ {K V H : Type 0} (laws : Laws K V H) (o : IsTotalOrder laws.cmp) (local
       subst (λ f. found f ≤ found before + total at_row rows) (sym e)
       (omega (arith, total-append at_row before.rows (new_rows laws local rows), total-filter at_row (λ r. not (has_row laws local r)) rows))
 
-  keys_added : (before after : Found K V) (nodes : List (K × List ℕ)) → AddsKeys laws local nodes before after → found after ≤ found before + total at (keys_among nodes)
+  keys_added : (before after : Found K V) (nodes : List (K × List ℕ)) → after ≡ record before { wanted = before.wanted ++ new_keys laws local nodes }
+      → found after ≤ found before + total at (keys_among nodes)
   keys_added before after nodes e =
       let new = filter (λ m. not (has_digest laws local m.0 m.1)) nodes in
       subst (λ f. found f ≤ found before + total at (keys_among nodes)) (sym e)

@@ -1,5 +1,5 @@
 -- Where nothing stands that can be told: what was read of the bytes tells all else that they could say.
-use Rattle.std.proofs.Common.{◌≡◌, ◌≢◌, ℕ, ◌+◌, ◌<◌, Bool, true, false, cond, List, [], ◌∷◌, ◌++◌, append_assoc, append-nil, length, map, Option, Some, None, refl, sym, ap, subst, ◌∙◌, arith}
+use Rattle.std.proofs.Common.{◌≡◌, ◌≢◌, ℕ, ◌+◌, ◌<◌, Bool, true, false, cond, List, [], ◌∷◌, ◌++◌, append_assoc, append-nil, length, map, Option, Some, None, refl, sym, ap, subst, ◌∙◌, arith, ◌^◌}
 use Rattle.std.proofs.lemmas.List.{length-append, length-map}
 use Rattle.std.specs.Cmp.{IsTotalOrder}
 use Rattle.std.specs.List.{AllByRecursion, flat_map, AllZip}
@@ -11,16 +11,19 @@ use Rattle.merkle_bytes.specs.Keys.{key_behind}
 use Rattle.merkle_bytes.specs.Options.{option_bytes}
 use Rattle.merkle_bytes.specs.Runs.{bound_key, run_bytes, row_behind, row_key}
 use Rattle.merkle_wire.specs.Coming.{AscendIn, IsPageDigest}
-use Rattle.merkle_wire.specs.Fit.{IsOutlineIn, SaysRoot, AreNodesIn, NoOutline, NoRows, NoPart, NoPage}
+use Rattle.merkle_wire.specs.Fit.{IsOutlineIn, AreNodesIn, NoPage, NoRows, NoOutline, NoPart}
 use Rattle.merkle_wire.specs.Gaps.{owned_gap}
 use Rattle.merkle_wire.specs.Outlines.{Outline, rows_told, digests_told, page_told, outline_bytes, keys_among, keys_told, pages_bytes, nodes_bytes}
-use Rattle.merkle_wire.specs.Replies.{Part, part_bytes}
+use Rattle.merkle_wire.specs.Replies.{Part, part_bytes, root_reply_bytes}
 use Rattle.merkle_wire.specs.declared.gaps.OwnedGap.{OwnedGap}
 use Rattle.merkle_wire.specs.declared.wanted.Wanted.{Wanted}
 use Rattle.merkle_wire.proofs.WrittenKeys.{told_as_keys}
 use Rattle.merkle_wire.proofs.TellingReplies.{Fits, SameRow, keys_tell, outline_some, outline_tells, page_tells, part_tells, pages_begin, digests_begin, rows_tell, same_length}
 use Rattle.merkle_wire.proofs.Outside.{ascend-same}
 use Rattle.merkle_bytes.specs.Reading.{BeginsWithNo}
+use Rattle.merkle_wire.proofs.Fronts.{front_told}
+use Rattle.merkle_wire.specs.Messages.{front}
+use Rattle.merkle_wire.specs.declared.message.Kind.TheVariants.{Root as root_kind}
 
 -- a byte at the front, and what is after it
 first_byte : (a b : ℕ) (r s : List ℕ) → a ∷ r ≡ b ∷ s → (a ≡ b) × (r ≡ s)
@@ -224,16 +227,21 @@ pub no_pages : (count : ℕ) (left rest : List ℕ) (ps : List (Option (List ℕ
 no_pages count left rest ps read are few none others more (many, long) e =
     let (page, behind, is, f) = pages_begin ps others rest more are long (omega (arith, few, many)) (sym read ∙ e) in none page behind is f
 
+-- a reply says the number of rows, and the digest of the root page, or none
+abbrev pub SaysRoot : List ℕ → Type 0
+SaysRoot reply = (count : ℕ) × (digest : Option (List ℕ)) × (count < 2 ^ 64) × IsPageDigest digest × (reply ≡ root_reply_bytes count digest)
+
 -- the number of rows was read, and after it no digest of a page stands
-pub no_root-digest : (count : ℕ) (left rest : List ℕ) → left ≡ count_bytes count ++ rest → BeginsWithNo (option_bytes (λ d. d)) IsPageDigest rest → (all : List ℕ) → SaysRoot all → left ≢ all
-no_root-digest count left rest read none all (number, digest, few, is, said) e =
+pub no_root-digest : (reply : List ℕ) (count : ℕ) (left rest : List ℕ) → reply ≡ front root_kind ++ left → left ≡ count_bytes count ++ rest
+    → BeginsWithNo (option_bytes (λ d. d)) IsPageDigest rest → ¬ SaysRoot reply
+no_root-digest reply count left rest begins read none (number, digest, few, is, said) =
     let page = option_bytes (λ d. d) digest in
-    none digest [] is ((count_told count number rest page (sym read ∙ e ∙ said)).1 ∙ sym (append-nil page))
+    none digest [] is ((count_told count number rest page (sym read ∙ (front_told root_kind root_kind left (count_bytes number ++ page) (sym begins ∙ said)).1)).1 ∙ sym (append-nil page))
 
 -- or more stands after that
-pub no_root-end : (count : ℕ) (digest : Option (List ℕ)) (left middle rest : List ℕ) → left ≡ count_bytes count ++ middle → middle ≡ option_bytes (λ d. d) digest ++ rest
-    → IsPageDigest digest → rest ≢ []
-    → (all : List ℕ) → SaysRoot all → left ≢ all
-no_root-end count digest left middle rest read then is more all (number, other, few, of, said) e =
+pub no_root-end : (reply : List ℕ) (count : ℕ) (digest : Option (List ℕ)) (left middle rest : List ℕ) → reply ≡ front root_kind ++ left → left ≡ count_bytes count ++ middle
+    → middle ≡ option_bytes (λ d. d) digest ++ rest → IsPageDigest digest → rest ≢ [] → ¬ SaysRoot reply
+no_root-end reply count digest left middle rest begins read then is more (number, other, few, of, said) =
     let page = option_bytes (λ d. d) other in
-    more (page_tells digest other rest [] is of (sym then ∙ (count_told count number middle page (sym read ∙ e ∙ said)).1 ∙ sym (append-nil page))).1
+    let e = (front_told root_kind root_kind left (count_bytes number ++ page) (sym begins ∙ said)).1 in
+    more (page_tells digest other rest [] is of (sym then ∙ (count_told count number middle page (sym read ∙ e)).1 ∙ sym (append-nil page))).1

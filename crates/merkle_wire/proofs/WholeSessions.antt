@@ -16,14 +16,18 @@ use Rattle.merkle_tree_theory.specs.Ranges.{IsPageOf}
 use Rattle.merkle_tree_theory.specs.Tree.{Tree, page, Row, high, node, Node}
 use Rattle.merkle_tree_theory.proofs.PagesIn.{pairs_down, inside}
 use Rattle.merkle_wire.specs.Sessions.{HaveFaithfulNodes, NoNodesCollide, AreBrought}
-use Rattle.merkle_wire.specs.Underway.{Underway}
+use Rattle.merkle_wire.specs.Underway.{Underway, nothing}
 use Rattle.merkle_wire.specs.declared.catching_up.Next.{Next}
 use Rattle.merkle_wire.specs.declared.catching_up.Next.TheVariants.{Ask, Came}
 use Rattle.merkle_wire.proofs.Exchanges.{Tell}
 use Rattle.merkle_wire.proofs.Fitting.{found_each}
 use Rattle.merkle_wire.proofs.NextCovers.{begun_covers, exchanged}
-use Rattle.merkle_wire.specs.SessionLaws.{IsExchange, AreExchanges, IsSession}
+use Rattle.merkle_wire.specs.SessionLaws.{IsExchange, AreExchangesTo}
 use Rattle.merkle_wire.proofs.Covering.{Covers, CoversNext}
+use Rattle.merkle_wire.specs.declared.settings.Settings.{Settings}
+use Rattle.merkle_wire.specs.declared.question.Question.TheVariants.{Root}
+use Rattle.std.specs.Global.{Vec}
+use Rattle.merkle_wire.specs.Questions.{question_bytes}
 
 module _ {K V H : Type 0} (laws : Laws K V H) (o : IsTotalOrder laws.cmp) (eqv : IsEquivalence laws.eq)
     (respects : (h : H) (a b : V) → laws.eq a b ≡ true → laws.value_digest h a ≡ laws.value_digest h b)
@@ -41,24 +45,21 @@ module _ {K V H : Type 0} (laws : Laws K V H) (o : IsTotalOrder laws.cmp) (eqv :
       let tree = subst (λ s. IsTreeOf laws.cmp (laws.key_digest s.hasher) s.base a.tree.root (tree_map laws s)) same a.of_peer in
       let kept : IsKept laws.cmp laws.value_digest now = record { ascending = up_peer; digested = tree.1 } in
       exchanged laws o eqv respects one_tree encoding values tell n local up (contents_of peer root) now refl a.settings kept tree.0 (subst (HasSmallMap laws n) same small)
-      (laws.key_digest a.tree.hasher) before a.question a.message e.reply next a.asks a.reads a.answers e.takes root of_peer covers
+      before a.question (question_bytes encoding before.asked) e.reply next refl a.reads a.answers e.takes root of_peer covers
 
-  chain_brings : (before : Underway K V) (more : List (Underway K V)) (rows : List (K × V)) (root : Tree K (List ℕ))
-      → IsTreeOf laws.cmp (laws.key_digest peer.hasher) peer.base root (tree_map laws peer) → AreExchanges laws n encoding values local peer before more rows
-      → Covers laws local peer root before → AreBrought laws local peer rows
-  chain_brings before [] rows root of_peer (came, e, is) covers = subst (AreBrought laws local peer) (sym is) (one_covers before (Came came) root of_peer e covers)
-  chain_brings before (next ∷ more) rows root of_peer (message, e, others) covers = chain_brings next more rows root of_peer others (one_covers before (Ask next message) root of_peer e covers).1
+  chain_brings : (before last : Underway K V) (more : List (Underway K V)) (rows : Vec (K × V)) (root : Tree K (List ℕ))
+      → IsTreeOf laws.cmp (laws.key_digest peer.hasher) peer.base root (tree_map laws peer) → AreExchangesTo laws n encoding values local peer before more last
+      → IsExchange laws n encoding values local peer last (Came rows) → Covers laws local peer root before → AreBrought laws local peer rows.items
+  chain_brings before last [] rows root of_peer same e covers = one_covers last (Came rows) root of_peer e (subst (Covers laws local peer root) same covers)
+  chain_brings before last (next ∷ more) rows root of_peer (message, one, others) e covers =
+      chain_brings next last more rows root of_peer others e (one_covers before (Ask next message) root of_peer one covers).1
 
-  -- a tree of the peer's map, by which it answers first
-  first_tree : (before : Underway K V) (more : List (Underway K V)) (rows : List (K × V)) → AreExchanges laws n encoding values local peer before more rows
-      → (root : Tree K (List ℕ)) × IsTreeOf laws.cmp (laws.key_digest peer.hasher) peer.base root (tree_map laws peer)
-  first_tree before [] rows (came, e, is) = (e.answer.tree.root, e.answer.of_peer)
-  first_tree before (next ∷ more) rows (message, e, others) = (e.answer.tree.root, e.answer.of_peer)
-
-  pub session_brings : (rows : List (K × V)) → IsSession laws n encoding values local peer rows → AreBrought laws local peer rows
-  session_brings rows s =
-      let (root, of_peer) = first_tree s.begun s.more rows s.exchanges in
-      chain_brings s.begun s.more rows root of_peer s.exchanges (begun_covers laws encoding local peer root s.begun s.settings s.asks_root s.nothing_found)
+  -- the peer answers last by a tree of its map
+  pub session_brings : (begun last : Underway K V) (settings : Settings K) (more : List (Underway K V)) (rows : Vec (K × V)) → begun.asked ≡ Root settings → begun.found ≡ nothing
+      → AreExchangesTo laws n encoding values local peer begun more last → IsExchange laws n encoding values local peer last (Came rows) → AreBrought laws local peer rows.items
+  session_brings begun last settings more rows asks_root nothing_found so_far e =
+      let root = e.answer.tree.root in
+      chain_brings begun last more rows root e.answer.of_peer so_far e (begun_covers laws encoding local peer root begun settings asks_root nothing_found)
 
 -- digests of n bytes each, one after the other, tell as many digests
 digests_tell : (n : ℕ) (ds es : List (List ℕ)) → AllByRecursion (λ d. length d ≡ n) ds → AllByRecursion (λ d. length d ≡ n) es → length ds ≡ length es
@@ -102,7 +103,7 @@ module _ {K V H : Type 0} (laws : Laws K V H) (o : IsTotalOrder laws.cmp) (n : �
   -- where no nodes collide, their digests are faithful
   pub faithful_nodes : (a b : Side K V H) → HasSmallMap laws n a → HasSmallMap laws n b → NoNodesCollide laws a b → HaveFaithfulNodes laws a b
   faithful_nodes a b small small' none ds es one =
-      let nodes = nodes_of one.page in
-      digests_tell n ds es (lengths a small nodes ds one.own) (subst (AllByRecursion (λ e. length e ≡ n)) one.theirs (page_lengths b small' one.page one.of_peer))
-      (sym (length-map ds Some) ∙ sym (ap length one.own) ∙ length-map nodes (λ m. get laws.cmp (tree_map laws a) m.key) ∙ sym (length-map nodes (λ m. m.digest)) ∙ ap length one.theirs)
+      let nodes = nodes_of one.0 in
+      digests_tell n ds es (lengths a small nodes ds one.2) (subst (AllByRecursion (λ e. length e ≡ n)) one.3 (page_lengths b small' one.0 one.1))
+      (sym (length-map ds Some) ∙ sym (ap length one.2) ∙ length-map nodes (λ m. get laws.cmp (tree_map laws a) m.key) ∙ sym (length-map nodes (λ m. m.digest)) ∙ ap length one.3)
       (none ds es one)

@@ -17,51 +17,42 @@ use Rattle.merkle_wire.specs.declared.session_error.SessionError.{SessionError}
 use Rattle.merkle_wire.specs.declared.session_error.SessionError.TheVariants as session
 use Rattle.merkle_wire.specs.declared.session_error.TakeError.{TakeError}
 use Rattle.merkle_wire.specs.declared.session_error.TakeError.TheVariants.{Session, Tree}
+use Rattle.merkle_replica.specs.Laws.{Laws}
+use Rattle.merkle_replica.specs.Contents.{Side}
+use Rattle.merkle_wire.specs.ItsRows.{Digests, ForRowsOf}
 
--- why a message that was not read has no reply: out of memory, or where it is no message
-abbrev pub unread_message : ReadError → AnswerError
-unread_message read.Memory = answer.Memory
-unread_message (read.Unexpected offset expected) = answer.Malformed (read.Unexpected offset expected)
-
--- why a reply that was not read ends a catch-up: out of memory, or where it is no reply
-abbrev pub unread_reply : ReadError → SessionError
-unread_reply read.Memory = session.Memory
-unread_reply (read.Unexpected offset expected) = session.Malformed (read.Unexpected offset expected)
+-- why bytes that were not read are not taken: out of memory, or malformed
+abbrev pub unread : {E : Type 0} → E → (ReadError → E) → ReadError → E
+unread memory malformed read.Memory = memory
+unread memory malformed (read.Unexpected offset expected) = malformed (read.Unexpected offset expected)
 
 -- the bytes are no message: memory was not the reason, nor were settings
 abbrev pub IsUnread : AnswerError → Type 0
-IsUnread answer.Memory = ⊥
 IsUnread (answer.Malformed error) = ⊤
-IsUnread answer.OtherSettings = ⊥
+IsUnread _ = ⊥
 
 -- the asking side has another hash key or other tree settings
 abbrev pub AreOtherSettings : AnswerError → Type 0
-AreOtherSettings answer.Memory = ⊥
-AreOtherSettings (answer.Malformed error) = ⊥
 AreOtherSettings answer.OtherSettings = ⊤
+AreOtherSettings _ = ⊥
 
 -- this holds of an error of the message; of one of the tree or the rows nothing is said
 abbrev pub OfMessage : {E : Type 0} → (AnswerError → Type 0) → KeptError E → Type 0
 OfMessage Holds (Answer error) = Holds error
 OfMessage Holds (Kept error) = ⊤
 
--- this holds of an error for which a catch-up of a replica ends; of one of the tree nothing is said
-abbrev pub OfSession : {E : Type 0} → (SessionError → Type 0) → TakeError E → Type 0
-OfSession Holds (Session error) = Holds error
-OfSession Holds (Tree error) = ⊤
+-- this holds of an error of the session, whatever rows these are the digests of; of one of the tree nothing is said
+abbrev pub OfSession : {K V H E : Type 0} → Laws K V H → Digests K H → (Side K V H → SessionError → Type 0) → TakeError E → Type 0
+OfSession laws own Holds (Session error) = ForRowsOf laws own (λ local. Holds local error)
+OfSession laws own Holds (Tree error) = ⊤
 
 -- a reply is refused when out of memory, or for this reason
 abbrev pub IsRefusedFor : Type 0 → SessionError → Type 0
 IsRefusedFor reason session.Memory = ⊤
-IsRefusedFor reason (session.Malformed error) = reason
-IsRefusedFor reason session.OtherKind = reason
-IsRefusedFor reason session.Refused = reason
-IsRefusedFor reason session.NothingCame = reason
-IsRefusedFor reason session.NotInGap = reason
-IsRefusedFor reason session.NoNode = reason
 IsRefusedFor reason session.TooManyRounds = ⊥
 IsRefusedFor reason session.Twice = ⊥
 IsRefusedFor reason (session.Limit limit) = ⊥
+IsRefusedFor reason _ = reason
 
 -- why a message has no reply
 abbrev pub answer_error_text : AnswerError → List ℕ

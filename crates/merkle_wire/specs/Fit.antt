@@ -1,31 +1,28 @@
 -- What can be told of what was asked for. A reply that tells it is taken, and no other is.
-use Rattle.std.specs.Prelude.{◌≡◌, ◌≢◌, ℕ, ◌<◌, ◌+◌, ◌^◌, List, [], ◌++◌, length, map, Bool, true, false, Option, flat_map}
+use Rattle.std.specs.Prelude.{◌≡◌, ◌≢◌, ℕ, ◌<◌, ◌+◌, ◌^◌, List, [], ◌++◌, length, map, Bool, true, false, Option, flat_map, ⊤}
 use Rattle.std.specs.List.{AllByRecursion}
 use Rattle.std.specs.declared.cmp.Ordering.{Ordering}
-use Rattle.merkle_bytes.specs.Counts.{count_bytes}
-use Rattle.merkle_bytes.specs.Options.{IsOption, option_bytes}
+use Rattle.merkle_bytes.specs.Options.{IsOption}
 use Rattle.merkle_tree_theory.specs.Gap.{Gap}
-use Rattle.merkle_wire.specs.Coming.{AscendIn, IsPageDigest}
+use Rattle.merkle_wire.specs.Coming.{AscendIn, IsPageDigest, EntriesCome}
 use Rattle.merkle_wire.specs.Gaps.{owned_gap}
-use Rattle.merkle_wire.specs.Messages.{front}
-use Rattle.merkle_wire.specs.Outlines.{Outline, rows_told, digests_told, page_told, outline_bytes, page_bytes}
-use Rattle.merkle_wire.specs.Replies.{Part, outline_over_bytes, part_in_bytes, value_at_bytes, part_bytes}
+use Rattle.merkle_wire.specs.Outlines.{Outline, rows_told, digests_told, page_told, page_bytes, outline_bytes}
+use Rattle.merkle_wire.specs.Replies.{Part, outline_over_bytes, part_in_bytes, value_at_bytes, root_reply_bytes, part_bytes}
 use Rattle.merkle_wire.specs.declared.gaps.OwnedGap.{OwnedGap}
 use Rattle.merkle_wire.specs.declared.message.Kind.{Kind}
-use Rattle.merkle_wire.specs.declared.message.Kind.TheVariants.{Root as root_kind, Outlines as outlines_kind, Nodes as nodes_kind, RowsAt as rows_at_kind, RowsIn as rows_in_kind}
+use Rattle.merkle_wire.specs.declared.message.Kind.TheVariants.{Outlines as outlines_kind, Nodes as nodes_kind, RowsAt as rows_at_kind, RowsIn as rows_in_kind}
 use Rattle.merkle_wire.specs.declared.question.Question.{Question}
 use Rattle.merkle_wire.specs.declared.question.Question.TheVariants.{Root, Outlines, Nodes, RowsAt, RowsIn}
-use Rattle.merkle_bytes.specs.Runs.{bound_key, run_bytes, row_behind, row_key}
 use Rattle.merkle_bytes.specs.Reading.{BeginsWithNo}
+use Rattle.merkle_bytes.specs.Runs.{bound_key, run_bytes, row_behind, row_key}
 
--- the bytes say something of the first of what was asked for, of one at least, each where P holds of both
-pub record Says {X Y : Type 0} (P : X → Y → Type 0) (bytes : List (X × Y) → List ℕ) (asked : List X) (all : List ℕ) : Type 0 where
-  pub told : List (X × Y)
-  pub left : List X
-  pub some : told ≢ []
-  pub begins : asked ≡ map (λ t. t.0) told ++ left
-  pub each : AllByRecursion (λ t. P t.0 t.1) told
-  pub is : all ≡ bytes told
+-- bytes don't begin with this many digests of n bytes
+abbrev pub NoDigests : ℕ → ℕ → List ℕ → Type 0
+NoDigests n count = BeginsWithNo (flat_map (λ d. d)) (λ digests. (length digests ≡ count) × AllByRecursion (λ d. length d ≡ n) digests)
+
+-- a reply of a kind says something of the first of what was asked for, of one at least, each where P holds of both
+abbrev pub Says : {X Y : Type 0} → Kind → (X × Y → List ℕ) → (X → Y → Type 0) → List X → List ℕ → Type 0
+Says {X} kind bytes P asked reply = (left : List X) × EntriesCome kind bytes P (λ told. ⊤) asked reply left
 
 module _ {K : Type 0} (cmp : K → K → Ordering) (is_key : K → Type 0) where
   -- nodes that ascend in the gap, with digests of n bytes
@@ -34,8 +31,12 @@ module _ {K : Type 0} (cmp : K → K → Ordering) (is_key : K → Type 0) where
 
   -- a page: its keys ascend in the gap, of which there is one, with a page or none before each of them and after the last
   abbrev pub IsPageTold : Gap K → List ℕ → List K → List (Option (List ℕ)) → Type 0
-  IsPageTold gap digest keys pages = (keys ≢ []) × AscendIn cmp gap keys × AllByRecursion is_key keys
-      × (length digest ≡ 16) × (length pages ≡ length keys + 1) × AllByRecursion IsPageDigest pages
+  IsPageTold gap digest keys pages = (keys ≢ []) × AscendIn cmp gap keys × AllByRecursion is_key keys × (length digest ≡ 16) × (length pages ≡ length keys + 1) × AllByRecursion IsPageDigest pages
+
+  -- the bytes don't begin with a page over a gap, after a key
+  abbrev pub NoPage : (K → List ℕ) → List ℕ → OwnedGap K → List ℕ → Type 0
+  NoPage encoding last gap left = (digest : List ℕ) (keys : List K) (pages : List (Option (List ℕ))) (rest : List ℕ) → IsPageTold (owned_gap gap) digest keys pages
+      → left ≢ page_bytes encoding last digest keys pages ++ rest
 
 module _ {K V : Type 0} (cmp : K → K → Ordering) (is_key : K → Type 0) (is_value : V → Type 0) where
   -- rows that ascend in the gap
@@ -52,55 +53,30 @@ module _ {K V : Type 0} (cmp : K → K → Ordering) (is_key : K → Type 0) (is
   IsOutlineIn n with_pages gap (digests_told nodes) = AreNodesIn cmp is_key n gap nodes
   IsOutlineIn n with_pages gap (page_told digest keys pages) = (with_pages ≡ true) × IsPageTold cmp is_key gap digest keys pages
 
--- the number of rows, and the digest of the root page, or none
-abbrev pub SaysRoot : List ℕ → Type 0
-SaysRoot all = (count : ℕ) × (digest : Option (List ℕ)) × (count < 2 ^ 64) × IsPageDigest digest × (all ≡ count_bytes count ++ option_bytes (λ d. d) digest)
-
--- a reply of a kind says what S holds of
-abbrev pub SaysSo : Kind → (List ℕ → Type 0) → List ℕ → Type 0
-SaysSo kind S reply = (all : List ℕ) × S all × (reply ≡ front kind ++ all)
-
 module _ {K V : Type 0} (cmp : K → K → Ordering) (is_key : K → Type 0) (is_value : V → Type 0) (encoding : K → List ℕ) (values : V → List ℕ) where
-  -- outlines of the pages over the first of the gaps, where digests of values have n bytes
-  abbrev pub SaysOutlines : ℕ → Bool → List (OwnedGap K) → List ℕ → Type 0
-  SaysOutlines n with_pages = Says (λ g. IsOutlineIn cmp is_key is_value n with_pages (owned_gap g)) (flat_map (outline_over_bytes encoding values))
+  -- a reply of a kind says outlines of the pages over the first of the gaps, where digests of values have n bytes
+  abbrev pub SaysOutlines : ℕ → Kind → Bool → List (OwnedGap K) → List ℕ → Type 0
+  SaysOutlines n kind with_pages = Says kind (outline_over_bytes encoding values) (λ g. IsOutlineIn cmp is_key is_value n with_pages (owned_gap g))
 
-  -- rows in the first of the gaps
-  abbrev pub SaysParts : List (OwnedGap K) → List ℕ → Type 0
-  SaysParts = Says (λ g. IsPartIn cmp is_key is_value (owned_gap g)) (flat_map (part_in_bytes encoding values))
-
-  -- the bytes are a reply to the question: how many rows there are and the digest of the root page; outlines; values, each where there is one; or rows
+  -- a reply to the question: the number of rows and the digest of the root page; outlines, where digests of values have n bytes; values; or rows
   abbrev pub IsFit : ℕ → Question K → List ℕ → Type 0
-  IsFit n (Root settings) reply = SaysSo root_kind SaysRoot reply
-  IsFit n (Outlines most gaps) reply = SaysSo outlines_kind (SaysOutlines n true gaps.items) reply
-  IsFit n (Nodes most gaps) reply = SaysSo nodes_kind (SaysOutlines n false gaps.items) reply
-  IsFit n (RowsAt keys) reply = SaysSo rows_at_kind (Says (λ w. IsOption is_value) (flat_map (value_at_bytes values)) keys.items) reply
-  IsFit n (RowsIn gaps) reply = SaysSo rows_in_kind (SaysParts gaps.items) reply
+  IsFit n (Root settings) reply = (count : ℕ) × (digest : Option (List ℕ)) × (count < 2 ^ 64) × IsPageDigest digest × (reply ≡ root_reply_bytes count digest)
+  IsFit n (Outlines most gaps) reply = SaysOutlines n outlines_kind true gaps.items reply
+  IsFit n (Nodes most gaps) reply = SaysOutlines n nodes_kind false gaps.items reply
+  IsFit n (RowsAt keys) reply = Says rows_at_kind (value_at_bytes values) (λ w. IsOption is_value) keys.items reply
+  IsFit n (RowsIn gaps) reply = Says rows_in_kind (part_in_bytes encoding values) (λ g. IsPartIn cmp is_key is_value (owned_gap g)) gaps.items reply
 
--- the bytes don't begin with this many digests of n bytes
-abbrev pub NoDigests : ℕ → ℕ → List ℕ → Type 0
-NoDigests n count = BeginsWithNo (flat_map (λ d. d)) (λ digests. (length digests ≡ count) × AllByRecursion (λ d. length d ≡ n) digests)
-
-module _ {K : Type 0} (cmp : K → K → Ordering) (is_key : K → Type 0) (encoding : K → List ℕ) where
-  -- they don't begin with a page over a gap, after a key
-  abbrev pub NoPage : List ℕ → OwnedGap K → List ℕ → Type 0
-  NoPage last gap left = (digest : List ℕ) (keys : List K) (pages : List (Option (List ℕ))) (rest : List ℕ) → IsPageTold cmp is_key (owned_gap gap) digest keys pages
-      → left ≢ page_bytes encoding last digest keys pages ++ rest
-
-module _ {K V : Type 0} (cmp : K → K → Ordering) (is_key : K → Type 0) (is_value : V → Type 0) (encoding : K → List ℕ) (values : V → List ℕ) where
-  -- they don't begin with rows in a gap, after a key
+  -- bytes don't begin with rows in a gap, after a key; with an outline of the page over a gap; or with a part of the rows in a gap
   abbrev pub NoRows : List ℕ → OwnedGap K → List ℕ → Type 0
   NoRows last gap = BeginsWithNo (run_bytes (row_behind encoding values) (row_key encoding) last) (AreRowsIn cmp is_key is_value (owned_gap gap))
 
-  -- they don't begin with an outline of the page over a gap
   abbrev pub NoOutline : ℕ → Bool → OwnedGap K → List ℕ → Type 0
   NoOutline n with_pages gap = BeginsWithNo (outline_bytes encoding values (bound_key encoding [] gap.after)) (IsOutlineIn cmp is_key is_value n with_pages (owned_gap gap))
 
-  -- they don't begin with a part of the rows in a gap
   abbrev pub NoPart : OwnedGap K → List ℕ → Type 0
   NoPart gap = BeginsWithNo (part_bytes encoding values (bound_key encoding [] gap.after)) (IsPartIn cmp is_key is_value (owned_gap gap))
 
-  -- they are not parts of the rows in the first of the gaps and nothing else
+  -- bytes are not parts of the rows in the first of the gaps and nothing else
   abbrev pub NoParts : List (OwnedGap K) → List ℕ → Type 0
   NoParts gaps left = (told : List (OwnedGap K × Part K V)) (others : List (OwnedGap K)) → gaps ≡ map (λ t. t.0) told ++ others
       → AllByRecursion (λ t. IsPartIn cmp is_key is_value (owned_gap t.0) t.1) told → left ≢ flat_map (part_in_bytes encoding values) told

@@ -31,17 +31,15 @@ module _ {K : Type 0} (encoding : K → List ℕ) where
   pub gap_some : (last : List ℕ) (g : Gap K) → 1 ≤ length (gap_behind last g)
   gap_some last g = omega (arith, bound_some encoding last g.after, length-append (bound_behind encoding last g.after) (bound_behind encoding (bound_key encoding last g.after) g.before))
 
-module _ {K : Type 0} (is_key : K → Type 0) where
-  abbrev pub HasKeyBounds : Gap K → Type 0
-  HasKeyBounds g = IsOption is_key g.after × IsOption is_key g.before
+abbrev pub HasKeyBounds : {K : Type 0} → (K → Type 0) → Gap K → Type 0
+HasKeyBounds is_key g = IsOption is_key g.after × IsOption is_key g.before
 
 module _ {K : Type 0} (encoding : K → List ℕ) (eq : K → K → Bool)
     (told : (x y : K) (r s : List ℕ) → encoding x ++ r ≡ encoding y ++ s → (eq x y ≡ true) × (r ≡ s)) where
   -- bytes that begin with those of a gap tell its bounds, the last key after it, and what is after it
   pub gap_told : (last : List ℕ) (a b : Gap K) (r s : List ℕ) → gap_behind encoding last a ++ r ≡ gap_behind encoding last b ++ s
       → (option_eq eq a.after b.after && option_eq eq a.before b.before ≡ true) × (gap_key encoding last a ≡ gap_key encoding last b) × (r ≡ s)
-  gap_told last a b r s e =
-      let behind = bound_key encoding last in
+  gap_told last a b r s e = let behind = bound_key encoding last in
       let firsts = bound_told encoding eq told last a.after b.after (bound_behind encoding (behind a.after) a.before ++ r) (bound_behind encoding (behind b.after) b.before ++ s)
       (sym (append_assoc (bound_behind encoding last a.after) (bound_behind encoding (behind a.after) a.before) r) ∙ e
       ∙ append_assoc (bound_behind encoding last b.after) (bound_behind encoding (behind b.after) b.before) s) in

@@ -27,11 +27,10 @@ digests_of tree = record { hasher = tree.hasher; base = tree.base; format = tree
 abbrev pub side_of : {K V H : Type 0} → Digests K H → List (K × V) → Side K V H
 side_of digests rows = record { hasher = digests.hasher; base = digests.base; format = digests.format; rows = rows }
 
-module _ {K V H : Type 0} (laws : Laws K V H) where
-  -- the digests are those of the rows
-  abbrev pub AreDigestsOf : Digests K H → List (K × V) → Type 0
-  AreDigestsOf own rows = SameMap laws.cmp (λ d e. d ≡ e) own.map (digests (laws.value_digest own.hasher) rows)
+-- the digests are those of the rows
+abbrev pub AreDigestsOf : {K V H : Type 0} → Laws K V H → Digests K H → List (K × V) → Type 0
+AreDigestsOf laws own rows = SameMap laws.cmp (λ d e. d ≡ e) own.map (digests (laws.value_digest own.hasher) rows)
 
-  -- whatever rows the digests are those of, this holds of the side that has them
-  abbrev pub ForRowsOf : Digests K H → (Side K V H → Type 0) → Type 0
-  ForRowsOf own P = (rows : List (K × V)) → AreDigestsOf own rows → P (side_of own rows)
+-- whatever rows the digests are those of, this holds of the side that has them
+abbrev pub ForRowsOf : {K V H : Type 0} → Laws K V H → Digests K H → (Side K V H → Type 0) → Type 0
+ForRowsOf laws own P = (rows : List _) → AreDigestsOf laws own rows → P (side_of own rows)

@@ -1,5 +1,5 @@
 -- How much a catch-up takes of its peer at most.
-use Rattle.std.specs.Prelude.{◌≡◌, ℕ, ◌+◌, ◌≤◌, ◌<◌, List, Option, Some, None, codes, ⊤}
+use Rattle.std.specs.Prelude.{◌≡◌, ℕ, ◌+◌, ◌≤◌, List, Option, Some, None, codes, ⊤}
 use Rattle.merkle_wire.specs.declared.limits.Limit.{Limit}
 use Rattle.merkle_wire.specs.declared.limits.Limit.TheVariants as limit
 use Rattle.merkle_wire.specs.declared.limits.Limits.{Limits}
@@ -20,27 +20,11 @@ abbrev pub IsLeftOf : Option ℕ → ℕ → Option ℕ → Type 0
 IsLeftOf None number left = left ≡ None
 IsLeftOf (Some most) number left = (rest : ℕ) × (rest + number ≡ most) × (left ≡ Some rest)
 
--- a reply of this many bytes leaves this of the limits
-pub record IsLeftAfter (reply : ℕ) (before after : Limits) : Type 0 where
-  pub replies : IsLeftOf before.replies 1 after.replies
-  pub bytes : IsLeftOf before.bytes reply after.bytes
-  pub rows : after.rows ≡ before.rows
-
--- there is such a limit, and the number is above it
-abbrev pub IsAbove : ℕ → Option ℕ → Type 0
-IsAbove number None = ⊥
-IsAbove number (Some most) = most < number
-
 -- a reply of this many bytes is one too many, or has too many bytes
 abbrev pub IsOverLimit : ℕ → Limits → SessionError → Type 0
-IsOverLimit reply limits (session.Limit limit.Replies) = IsAbove 1 limits.replies
-IsOverLimit reply limits (session.Limit limit.Bytes) = IsAbove reply limits.bytes
+IsOverLimit reply limits (session.Limit limit.Replies) = ¬ Allows limits.replies 1
+IsOverLimit reply limits (session.Limit limit.Bytes) = ¬ Allows limits.bytes reply
 IsOverLimit reply limits _ = ⊥
-
--- this many rows are too many
-abbrev pub IsOverRows : ℕ → Limits → SessionError → Type 0
-IsOverRows rows limits (session.Limit limit.Rows) = IsAbove rows limits.rows
-IsOverRows rows limits _ = ⊥
 
 -- what a limit is of
 abbrev pub limit_text : Limit → List ℕ

@@ -10,8 +10,7 @@ use Rattle.key_order.specs.Order.{Same}
 use Rattle.key_order.specs.Map.{get}
 use denote.Ref.{Bor}
 
--- rows; keys with the digests of their values; or a page with others below it: the digest of its nodes, their keys, and the digest of the
--- page before each of them and of that after the last
+-- rows; keys with the digests of their values; or a page: the digest of its nodes, their keys, and the digests of the pages before and after them
 pub data Outline (K V : Type 0) : Type 0 where
   rows_told : List (K × V) → Outline K V
   digests_told : List (K × List ℕ) → Outline K V
@@ -56,23 +55,23 @@ module _ {K V : Type 0} (cmp : K → K → Ordering) (rows : List (K × V)) wher
   -- `found` has the row at each of the keys, one after the other, but for keys that aren't there
   abbrev pub AreRowsAt : List K → List (K × V) → Type 0
   AreRowsAt [] found = found ≡ []
-  AreRowsAt (k ∷ ks) found =
-      ((get cmp rows k ≡ None) × AreRowsAt ks found)
+  AreRowsAt (k ∷ ks) found = ((get cmp rows k ≡ None) × AreRowsAt ks found)
       ⊎ ((row : K × V) × (rest : List (K × V)) × Same cmp row.0 k × (get cmp rows k ≡ Some row.1) × AreRowsAt ks rest × (found ≡ row ∷ rest))
 
   -- the nodes, as rows or as digests
   abbrev pub AreNodes : List (K × List ℕ) → Outline K V → Type 0
   AreNodes nodes (rows_told rs) = AreRowsAt (keys_among nodes) rs
   AreNodes nodes (digests_told same) = same ≡ nodes
-  AreNodes nodes (page_told digest keys pages) = ⊥
+  AreNodes nodes _ = ⊥
 
-  -- what is told of a page with these items, where it is to be told with the pages below it or alone: a page where there are pages below it and they
-  -- are to be told, else its nodes
+  -- what is told of a page with these items, with the pages below it or alone: a page, where there are pages below that are to be told, else its nodes
   abbrev pub IsTold : Bool → List (Item K (List ℕ)) → Outline K V → Type 0
-  IsTold with_pages items (rows_told rs) = (with_pages ≡ true → HasNoPage items) × AreNodes (nodes_among items) (rows_told rs)
-  IsTold with_pages items (digests_told nodes) = (with_pages ≡ true → HasNoPage items) × AreNodes (nodes_among items) (digests_told nodes)
-  IsTold with_pages items (page_told digest keys pages) =
-      (with_pages ≡ true) × (digest ≡ nodes_digest (nodes_among items)) × (keys ≡ keys_among (nodes_among items)) × (pages ≡ pages_beside None items)
+  IsTold with_pages list (page_told digest keys pages) = (with_pages ≡ true) × (digest ≡ nodes_digest (nodes_among list)) × (keys ≡ keys_among (nodes_among list)) × (pages ≡ pages_beside None list)
+  IsTold with_pages list nodes = (with_pages ≡ true → HasNoPage list) × AreNodes (nodes_among list) nodes
+
+-- the digests of pages, each where there is one
+abbrev pub pages_bytes : List (Option (List ℕ)) → List ℕ
+pages_bytes = flat_map (option_bytes (λ d. d))
 
 module _ {K : Type 0} (encoding : K → List ℕ) where
   -- how many keys there are, and the keys, each after the one before
@@ -83,17 +82,12 @@ module _ {K : Type 0} (encoding : K → List ℕ) where
   abbrev pub nodes_bytes : List ℕ → List (K × List ℕ) → List ℕ
   nodes_bytes last nodes = keys_told last (keys_among nodes) ++ flat_map (λ n. n.1) nodes
 
--- the digests of pages, each where there is one
-abbrev pub pages_bytes : List (Option (List ℕ)) → List ℕ
-pages_bytes = flat_map (option_bytes (λ d. d))
+  -- the bytes of a page, after a key: the digest of its nodes, their keys, and the digests of the pages beside them
+  abbrev pub page_bytes : List ℕ → List ℕ → List K → List (Option (List ℕ)) → List ℕ
+  page_bytes last digest keys pages = digest ++ (keys_told last keys ++ pages_bytes pages)
 
--- the bytes of a page, after a key: the digest of its nodes, their keys, and the digests of the pages beside them
-abbrev pub page_bytes : {K : Type 0} → (K → List ℕ) → List ℕ → List ℕ → List K → List (Option (List ℕ)) → List ℕ
-page_bytes encoding last digest keys pages = digest ++ (keys_told encoding last keys ++ pages_bytes pages)
-
-module _ {K V : Type 0} (encoding : K → List ℕ) (values : V → List ℕ) where
-  -- the bytes of what is told, after a key
-  abbrev pub outline_bytes : List ℕ → Outline K V → List ℕ
-  outline_bytes last (rows_told rows) = 0 ∷ run_bytes (row_behind encoding values) (row_key encoding) last rows
-  outline_bytes last (digests_told nodes) = 1 ∷ nodes_bytes encoding last nodes
-  outline_bytes last (page_told digest keys pages) = 2 ∷ page_bytes encoding last digest keys pages
+-- the bytes of what is told, after a key
+abbrev pub outline_bytes : {K V : Type 0} → (K → List ℕ) → (V → List ℕ) → List ℕ → Outline K V → List ℕ
+outline_bytes encoding values last (rows_told rows) = 0 ∷ run_bytes (row_behind encoding values) (row_key encoding) last rows
+outline_bytes encoding values last (digests_told nodes) = 1 ∷ nodes_bytes encoding last nodes
+outline_bytes encoding values last (page_told digest keys pages) = 2 ∷ page_bytes encoding last digest keys pages

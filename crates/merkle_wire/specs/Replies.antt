@@ -9,71 +9,55 @@ use Rattle.merkle_bytes.specs.Options.{option_bytes}
 use Rattle.merkle_bytes.specs.Runs.{run_bytes, entries_bytes, row_behind, row_key, bound_key}
 use Rattle.merkle_replica.specs.Laws.{Laws}
 use Rattle.merkle_tree_theory.specs.Gap.{pairs_within}
-use Rattle.merkle_tree_theory.specs.Outline.{Item, of_node, of_page, outline_over, whole_item}
+use Rattle.merkle_tree_theory.specs.Outline.{Item, of_page, outline_over, whole_item}
 use Rattle.merkle_tree_theory.specs.State.{State}
 use Rattle.merkle_wire.specs.Gaps.{owned_gap}
 use Rattle.merkle_wire.specs.Messages.{front}
 use Rattle.merkle_wire.specs.Outlines.{Outline, IsTold, outline_bytes}
-use Rattle.merkle_wire.specs.Questions.{question_bytes, IfRoot}
+use Rattle.merkle_wire.specs.Questions.{question_bytes}
 use Rattle.merkle_wire.specs.declared.gaps.OwnedGap.{OwnedGap}
 use Rattle.merkle_wire.specs.declared.message.Kind.TheVariants.{Root as root_kind, Outlines as outlines_kind, Nodes as nodes_kind, RowsAt as rows_at_kind, RowsIn as rows_in_kind}
 use Rattle.merkle_wire.specs.declared.question.Question.{Question}
 use Rattle.merkle_wire.specs.declared.question.Question.TheVariants.{Root, Outlines, Nodes, RowsAt, RowsIn}
 use Rattle.merkle_wire.specs.declared.wanted.Wanted.{Wanted}
 use Rattle.merkle_wire.specs.ItsRows.{digests_of}
-use Rattle.merkle_wire.specs.Settings.{AreSettingsBy, AreOwnSettings}
+use Rattle.merkle_wire.specs.Settings.{AreSettingsBy}
 use Rattle.merkle_wire.specs.declared.message.Kind.{Kind}
 
 -- something is told of the first of what was asked for, of one at least, each where P holds of both
-pub record TellsFirst {X Y : Type 0} (P : X → Y → Type 0) (asked : List X) (told : List (X × Y)) : Type 0 where
-  pub left : List X
-  pub begins : asked ≡ map (λ t. t.0) told ++ left
-  pub some : asked ≢ [] → told ≢ []
-  pub each : AllByRecursion (λ t. P t.0 t.1) told
+abbrev pub TellsFirst : {X Y : Type 0} → (X → Y → Type 0) → List X → List (X × Y) → Type 0
+TellsFirst {X} P asked told = (left : List X) × (asked ≡ map (λ t. t.0) told ++ left) × (asked ≢ [] → told ≢ []) × AllByRecursion (λ t. P t.0 t.1) told
 
 -- a reply of a kind tells this of the first of what was asked for, as the bytes of its entries
 abbrev pub AnswersFirst : {X Y : Type 0} → Kind → (X × Y → List ℕ) → (X → Y → Type 0) → List X → List ℕ → Type 0
 AnswersFirst {X} {Y} kind bytes P asked reply = (told : List (X × Y)) × TellsFirst P asked told × (reply ≡ front kind ++ flat_map bytes told)
 
--- each entry fits after the bytes that stand before it, and those before the first begin so
-abbrev pub EachFits : {X : Type 0} → (X → List ℕ) → (List ℕ → X → Type 0) → List ℕ → List X → Type 0
-EachFits bytes Fits begun [] = ⊤
-EachFits bytes Fits begun (t ∷ ts) = Fits begun t × EachFits bytes Fits (begun ++ bytes t) ts
-
--- after these bytes of a reply there is room for an entry: they are fewer than this many, or the two of the front
-abbrev pub IsNotFull : ℕ → List ℕ → Type 0
-IsNotFull most bytes = length bytes < max most 3
-
--- after these there is none
+-- after these bytes of a reply there is no room for an entry: they are as many as this, and more than the two of the front
 abbrev pub IsFull : ℕ → List ℕ → Type 0
 IsFull most bytes = max most 3 ≤ length bytes
 
--- a reply that begins so tells all of what was asked for, or the first of it up to the entry with which the reply is full, and each entry fits
-pub record TellsWhatFits {X Y : Type 0} (bytes : X × Y → List ℕ) (Fits : List ℕ → X × Y → Type 0) (most : ℕ) (asked : List X) (begun reply : List ℕ) : Type 0 where
-  pub told : List (X × Y)
-  pub left : List X
-  pub begins : asked ≡ map (λ t. t.0) told ++ left
-  pub is : reply ≡ begun ++ flat_map bytes told
-  pub each : EachFits bytes Fits begun told
-  pub ends : (left ≡ []) ⊎ IsFull most reply
+-- each entry has room and fits after the bytes that stand before it, and those before the first begin so
+abbrev pub EachFits : {X : Type 0} → ℕ → (X → List ℕ) → (List ℕ → X → Type 0) → List ℕ → List X → Type 0
+EachFits most bytes Fits begun [] = ⊤
+EachFits most bytes Fits begun (t ∷ ts) = ((¬ IsFull most begun) × Fits begun t) × EachFits most bytes Fits (begun ++ bytes t) ts
 
--- so it is where an entry fits as long as there is room for it
-abbrev pub EntriesFit : {X Y : Type 0} → (X × Y → List ℕ) → ℕ → List X → List ℕ → List ℕ → Type 0
-EntriesFit bytes most = TellsWhatFits bytes (λ bytes t. IsNotFull most bytes) most
+-- a reply that begins so tells all of what was asked for, or the first of it up to the entry with which the reply is full, and each entry fits
+abbrev pub TellsWhatFits : {X Y : Type 0} → (X × Y → List ℕ) → (List ℕ → X × Y → Type 0) → ℕ → List X → List ℕ → List ℕ → Type 0
+TellsWhatFits {X} {Y} bytes Fits most asked begun reply = (told : List (X × Y)) × (left : List X) × (asked ≡ map (λ t. t.0) told ++ left)
+    × (reply ≡ begun ++ flat_map bytes told) × EachFits most bytes Fits begun told × ((left ≡ []) ⊎ IsFull most reply)
+
+-- the value at a key, where there is one
+abbrev pub value_at_bytes : {K V : Type 0} → (V → List ℕ) → Wanted K × Option V → List ℕ
+value_at_bytes values t = option_bytes values t.1
 
 -- the rows in a gap that are told: the first of them, and whether they are all
 pub record Part (K V : Type 0) : Type 0 where
   pub rows : List (K × V)
   pub whole : Bool
 
-module _ {K V : Type 0} (cmp : K → K → Ordering) (rows : List (K × V)) where
-  -- the value is that at the key, where there is one
-  abbrev pub IsValueFor : Wanted K → Option V → Type 0
-  IsValueFor wanted value = value ≡ get cmp rows wanted.key
-
-  -- the part begins the rows in the gap: all of them, or some
-  abbrev pub IsPartOf : OwnedGap K → Part K V → Type 0
-  IsPartOf gap part = (more : List (K × V)) × (pairs_within cmp (owned_gap gap) rows ≡ part.rows ++ more) × (part.whole ≡ true → more ≡ []) × (part.whole ≡ false → part.rows ≢ [])
+-- the part begins the rows in the gap: all of them, or some
+abbrev pub IsPartOf : {K V : Type 0} → (K → K → Ordering) → List (K × V) → OwnedGap K → Part K V → Type 0
+IsPartOf cmp rows gap part = (more : List _) × (pairs_within cmp (owned_gap gap) rows ≡ part.rows ++ more) × (part.whole ≡ true → more ≡ []) × (part.whole ≡ false → part.rows ≢ [])
 
 module _ {K V : Type 0} (encoding : K → List ℕ) (values : V → List ℕ) where
   -- an outline, after the bound that the keys of its gap are above
@@ -92,33 +76,18 @@ module _ {K V : Type 0} (encoding : K → List ℕ) (values : V → List ℕ) wh
   abbrev pub part_in_bytes : OwnedGap K × Part K V → List ℕ
   part_in_bytes t = part_bytes (bound_key encoding [] t.0.after) t.1
 
-  -- how many bytes stand before a part and in these rows of it; its count and its flag don't count
-  abbrev pub length_with_rows : List ℕ → OwnedGap K → List (K × V) → ℕ
-  length_with_rows bytes gap rows = length bytes + length (rows_bytes (bound_key encoding [] gap.after) rows)
-
-  -- a part has all rows, or ends with the row by which there are this many bytes, which leaves no room for another part
+  -- a part has all rows, or ends with the row by which this many bytes stand there, but for its count and its flag: no other part has room
   abbrev pub RowsFit : ℕ → List ℕ → OwnedGap K × Part K V → Type 0
-  RowsFit most bytes t = ((i : ℕ) → i ≢ 0 → i < length t.1.rows → length_with_rows bytes t.0 (take i t.1.rows) < most)
-      × ((t.1.whole ≡ true) ⊎ (most ≤ length_with_rows bytes t.0 t.1.rows))
-
--- the value at a key, where there is one
-abbrev pub value_at_bytes : {K V : Type 0} → (V → List ℕ) → Wanted K × Option V → List ℕ
-value_at_bytes values t = option_bytes values t.1
-
-module _ {K V : Type 0} (encoding : K → List ℕ) (values : V → List ℕ) where
-  -- a reply tells the rows in all gaps, or in the first, and of the rows in a gap all, or the first, up to that by which it has this many bytes
-  abbrev pub PartsFit : ℕ → List (OwnedGap K) → List ℕ → List ℕ → Type 0
-  PartsFit most = TellsWhatFits (part_in_bytes encoding values) (λ bytes t. IsNotFull most bytes × RowsFit encoding values most bytes t) most
+  RowsFit most bytes t = let upto = λ (rows : List (K × V)). length bytes + length (rows_bytes (bound_key encoding [] t.0.after) rows) in
+      ((i : ℕ) → i ≢ 0 → i < length t.1.rows → upto (take i t.1.rows) < most) × ((t.1.whole ≡ true) ⊎ (most ≤ upto t.1.rows))
 
   -- the reply to a question tells all that it asks for, or the first of it up to that by which it has this many bytes
   abbrev pub EndsWithin : ℕ → Question K → List ℕ → Type 0
   EndsWithin most (Root settings) reply = ⊤
-  EndsWithin most (Outlines n gaps) reply =
-      EntriesFit (outline_over_bytes encoding values) most gaps.items (front outlines_kind) reply
-  EndsWithin most (Nodes n gaps) reply =
-      EntriesFit (outline_over_bytes encoding values) most gaps.items (front nodes_kind) reply
-  EndsWithin most (RowsAt keys) reply = EntriesFit (value_at_bytes values) most keys.items (front rows_at_kind) reply
-  EndsWithin most (RowsIn gaps) reply = PartsFit most gaps.items (front rows_in_kind) reply
+  EndsWithin most (Outlines n gaps) reply = TellsWhatFits outline_over_bytes (λ bytes t. ⊤) most gaps.items (front outlines_kind) reply
+  EndsWithin most (Nodes n gaps) reply = TellsWhatFits outline_over_bytes (λ bytes t. ⊤) most gaps.items (front nodes_kind) reply
+  EndsWithin most (RowsAt keys) reply = TellsWhatFits (value_at_bytes values) (λ bytes t. ⊤) most keys.items (front rows_at_kind) reply
+  EndsWithin most (RowsIn gaps) reply = TellsWhatFits part_in_bytes (RowsFit most) most gaps.items (front rows_in_kind) reply
 
   -- the message asks a question, and the reply to it tells so much
   abbrev pub IsAnsweredWithin : ℕ → List ℕ → Vec ℕ → Type 0
@@ -126,9 +95,8 @@ module _ {K V : Type 0} (encoding : K → List ℕ) (values : V → List ℕ) wh
 
 -- the digest of a whole tree that is one item, where it has a node
 abbrev pub whole_digest : {K : Type 0} → List (Item K (List ℕ)) → Option (List ℕ)
-whole_digest [] = None
-whole_digest (of_node k d ∷ xs) = None
 whole_digest (of_page g d ∷ xs) = Some d
+whole_digest _ = None
 
 -- the digest of the root page of a tree, where it has a node
 abbrev pub root_page_digest : {K H : Type 0} → (K → List ℕ) → State K H → Option (List ℕ)
@@ -138,40 +106,29 @@ root_page_digest bytes_of tree = whole_digest (whole_item tree.format bytes_of t
 abbrev pub root_reply_bytes : ℕ → Option (List ℕ) → List ℕ
 root_reply_bytes count digest = (front root_kind ++ count_bytes count) ++ option_bytes (λ d. d) digest
 
--- the reply to such a question of a replica with these rows and this tree
-abbrev pub IsRootReply : {K V H : Type 0} → (K → List ℕ) → List (K × V) → State K H → List ℕ → Type 0
-IsRootReply bytes_of rows tree reply = reply ≡ root_reply_bytes (length rows) (root_page_digest bytes_of tree)
-
 -- the items of the page over a gap
 abbrev pub items_over : {K H : Type 0} → (K → K → Ordering) → (K → List ℕ) → State K H → OwnedGap K → List (Item K (List ℕ))
 items_over cmp bytes_of tree gap = outline_over tree.format bytes_of cmp tree.root (owned_gap gap)
 
-module _ {K V H : Type 0} (cmp : K → K → Ordering) (bytes_of encoding : K → List ℕ) (values : V → List ℕ) (digest_of : K → List ℕ) (n : ℕ) (rows : List (K × V)) (tree : State K H) where
-  -- the reply to a question: where the settings are those of the tree, how many rows there are and the digest of the root page, or none; what is
-  -- told of the pages over the gaps; the values at the keys; or the rows in the gaps
-  abbrev pub IsReply : Question K → List ℕ → Type 0
-  IsReply (Root settings) reply = AreSettingsBy digest_of n (digests_of tree) settings × IsRootReply bytes_of rows tree reply
-  IsReply (Outlines most gaps) reply =
-      AnswersFirst outlines_kind (outline_over_bytes encoding values) (λ g. IsTold cmp rows true (items_over cmp bytes_of tree g)) gaps.items reply
-  IsReply (Nodes most gaps) reply =
-      AnswersFirst nodes_kind (outline_over_bytes encoding values) (λ g. IsTold cmp rows false (items_over cmp bytes_of tree g)) gaps.items reply
-  IsReply (RowsAt keys) reply = AnswersFirst rows_at_kind (value_at_bytes values) (IsValueFor cmp rows) keys.items reply
-  IsReply (RowsIn gaps) reply = AnswersFirst rows_in_kind (part_in_bytes encoding values) (IsPartOf cmp rows) gaps.items reply
-
 module _ {K V H : Type 0} (laws : Laws K V H) (n : ℕ) (encoding : K → List ℕ) (values : V → List ℕ) where
-  -- the reply to a question of a replica with these rows and this tree, whose digests of values have n bytes
-  abbrev pub IsReplyBy : List (K × V) → State K H → Question K → Vec ℕ → Type 0
-  IsReplyBy rows tree question reply = IsReply laws.cmp laws.bytes_of encoding values (laws.key_digest tree.hasher) n rows tree question reply.items
+  -- the reply to a question by these rows and this tree: the number of rows and the digest of the root page, or none; outlines; values; or rows
+  abbrev pub IsReply : List (K × V) → State K H → Question K → List ℕ → Type 0
+  IsReply rows tree (Root settings) reply = AreSettingsBy laws.key_digest n (digests_of tree) settings × (reply ≡ root_reply_bytes (length rows) (root_page_digest laws.bytes_of tree))
+  IsReply rows tree (Outlines most gaps) reply =
+      AnswersFirst outlines_kind (outline_over_bytes encoding values) (λ g. IsTold laws.cmp rows true (items_over laws.cmp laws.bytes_of tree g)) gaps.items reply
+  IsReply rows tree (Nodes most gaps) reply = AnswersFirst nodes_kind (outline_over_bytes encoding values) (λ g. IsTold laws.cmp rows false (items_over laws.cmp laws.bytes_of tree g)) gaps.items reply
+  IsReply rows tree (RowsAt keys) reply = AnswersFirst rows_at_kind (value_at_bytes values) (λ w value. value ≡ get laws.cmp rows w.key) keys.items reply
+  IsReply rows tree (RowsIn gaps) reply = AnswersFirst rows_in_kind (part_in_bytes encoding values) (IsPartOf laws.cmp rows) gaps.items reply
 
   -- the message asks a question, and this is the reply to it of a replica with these rows and this tree
   abbrev pub IsAnsweredBy : List (K × V) → State K H → List ℕ → Vec ℕ → Type 0
-  IsAnsweredBy rows tree message reply = (question : Question K) × (message ≡ question_bytes encoding question) × IsReplyBy rows tree question reply
+  IsAnsweredBy rows tree message reply = (question : Question K) × (message ≡ question_bytes encoding question) × IsReply rows tree question reply.items
 
-module _ {K V H : Type 0} (laws : Laws K V H) (n : ℕ) where
-  -- where the question is for the root, its settings are those of the tree
-  abbrev pub TellsSettings : State K H → Question K → Type 0
-  TellsSettings tree = IfRoot (AreOwnSettings laws.key_digest n tree)
+-- where the question is for the root, its settings are those of the tree
+abbrev pub TellsSettings : {K V H : Type 0} → Laws K V H → ℕ → State K H → Question K → Type 0
+TellsSettings laws n tree (Root settings) = AreSettingsBy laws.key_digest n (digests_of tree) settings
+TellsSettings laws n tree _ = ⊤
 
-  -- the message asks a question that is for the root, with settings that are not those of the tree
-  abbrev pub AsksWithOthers : (K → List ℕ) → State K H → List ℕ → Type 0
-  AsksWithOthers encoding tree message = (question : Question K) × (message ≡ question_bytes encoding question) × ¬ TellsSettings tree question
+-- the message asks a question that is for the root, with settings that are not those of the tree
+abbrev pub AsksWithOthers : {K V H : Type 0} → Laws K V H → ℕ → (K → List ℕ) → State K H → List ℕ → Type 0
+AsksWithOthers laws n encoding tree message = (question : Question _) × (message ≡ question_bytes encoding question) × ¬ TellsSettings laws n tree question

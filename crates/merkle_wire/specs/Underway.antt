@@ -1,22 +1,22 @@
--- A catch-up that waits for a reply, and what comes after one.
-use Rattle.std.specs.Prelude.{◌≡◌, ◌≢◌, ℕ, List, [], ◌++◌, map, flat_map, Option, Some, None, ◌⊎◌}
-use Rattle.std.specs.Global.{Vec}
-use Rattle.std.specs.List.{AllByRecursion}
-use Rattle.merkle_replica.specs.Contents.{Side}
-use Rattle.merkle_replica.specs.Laws.{Laws}
-use Rattle.merkle_wire.specs.Coming.{AscendIn, LiesIn}
-use Rattle.merkle_wire.specs.Found.{Found}
-use Rattle.merkle_wire.specs.Gaps.{owned_gap}
-use Rattle.merkle_wire.specs.Messages.{front}
-use Rattle.merkle_wire.specs.Outlines.{Outline}
-use Rattle.merkle_wire.specs.Replies.{Part, outline_over_bytes, part_in_bytes, value_at_bytes, root_reply_bytes}
-use Rattle.merkle_wire.specs.Taking.{IsRootTaken, AddsRows, AreTaken, AreBehind, value_row}
-use Rattle.merkle_wire.specs.declared.gaps.OwnedGap.{OwnedGap}
-use Rattle.merkle_wire.specs.declared.message.Kind.TheVariants.{Outlines as outlines_kind, Nodes as nodes_kind, RowsAt as rows_at_kind, RowsIn as rows_in_kind}
+-- A catch-up that waits for a reply: what it has found, and what it asks next.
+use Rattle.std.specs.Prelude.{List, [], ◌≡◌, ◌≢◌, ℕ, Option, Some, None, ◌⊎◌, ◌<◌, ◌^◌, ◌++◌, map, ⊤}
+use Rattle.merkle_tree_theory.specs.Gap.{Gap}
 use Rattle.merkle_wire.specs.declared.limits.Limits.{Limits}
 use Rattle.merkle_wire.specs.declared.question.Question.{Question}
 use Rattle.merkle_wire.specs.declared.question.Question.TheVariants.{Root, Outlines, Nodes, RowsAt, RowsIn}
-use Rattle.merkle_wire.specs.declared.wanted.Wanted.{Wanted}
+use Rattle.merkle_wire.specs.Gaps.{owned_gap}
+
+-- of the peer: gaps of pages that this side lacks, below those looked at last; of pages whose nodes it lacks; keys, whole gaps and rows that it lacks
+pub record Found (K V : Type 0) : Type 0 where
+  pub below : List (Gap K)
+  pub nodes : List (Gap K)
+  pub wanted : List K
+  pub whole : List (Gap K)
+  pub rows : List (K × V)
+
+-- nothing is found
+abbrev pub nothing : {K V : Type 0} → Found K V
+nothing = record { below = []; nodes = []; wanted = []; whole = []; rows = [] }
 
 -- what was asked, what has been found, how many rounds of outlines were asked for, and what is left of the limits
 pub record Underway (K V : Type 0) : Type 0 where
@@ -25,36 +25,27 @@ pub record Underway (K V : Type 0) : Type 0 where
   pub rounds : ℕ
   pub left : Limits
 
--- the question asks for what is left, where anything is
-abbrev pub AsksAgain : {K X : Type 0} → (Vec X → Question K) → List X → Option (Question K) → Type 0
-AsksAgain ask left again = ((left ≡ []) × (again ≡ None)) ⊎ ((rest : Vec _) × (rest.items ≡ left) × (left ≢ []) × (again ≡ Some (ask rest)))
+-- the question asks for something, and its number fits
+abbrev pub AsksForSome : {K : Type 0} → Question K → Type 0
+AsksForSome (Root settings) = ⊤
+AsksForSome (Outlines most gaps) = (gaps.items ≢ []) × (most < 2 ^ 64)
+AsksForSome (Nodes most gaps) = (gaps.items ≢ []) × (most < 2 ^ 64)
+AsksForSome (RowsAt keys) = keys.items ≢ []
+AsksForSome (RowsIn gaps) = gaps.items ≢ []
 
-module _ {K V H : Type 0} (laws : Laws K V H) (n : ℕ) (encoding : K → List ℕ) (values : V → List ℕ) (local : Side K V H) where
-  -- outlines came of the first gaps, of one at least, and were taken; `left` are the others
-  abbrev pub HasOutlines : List ℕ → List (OwnedGap K) → List ℕ → Found K V → Found K V → List (OwnedGap K) → Type 0
-  HasOutlines kind gaps reply before after left = (told : List (OwnedGap K × Outline K V))
-      × (reply ≡ kind ++ flat_map (outline_over_bytes encoding values) told) × (told ≢ []) × (gaps ≡ map (λ t. t.0) told ++ left)
-      × AllByRecursion (λ t. LiesIn laws.cmp n (owned_gap t.0) t.1) told × AreTaken laws local told before after
+-- nothing is to be asked for
+abbrev pub AsksNothingMore : {K V : Type 0} → Found K V → Type 0
+AsksNothingMore f = (f.below ≡ []) × (f.nodes ≡ []) × (f.wanted ≡ []) × (f.whole ≡ [])
 
-  -- values came at the first keys, at one at least, and those were taken that the side doesn't have; `left` are the others
-  abbrev pub HasValues : List (Wanted K) → List ℕ → Found K V → Found K V → List (Wanted K) → Type 0
-  HasValues keys reply before after left = (told : List (Wanted K × Option V))
-      × (reply ≡ front rows_at_kind ++ flat_map (value_at_bytes values) told) × (told ≢ []) × (keys ≡ map (λ t. t.0) told ++ left)
-      × AddsRows laws local (flat_map value_row told) before after
+-- the question asks for a part of what is found, which is no longer among it
+abbrev pub IsTakenFrom : {K V : Type 0} → Question K → Found K V → Found K V → Type 0
+IsTakenFrom (Root settings) before after = ⊥
+IsTakenFrom (Outlines most gaps) before after = (before.below ≡ map owned_gap gaps.items) × (after ≡ record before { below = [] })
+IsTakenFrom (Nodes most gaps) before after = (before.nodes ≡ map owned_gap gaps.items) × (after ≡ record before { nodes = [] })
+IsTakenFrom (RowsAt keys) before after = (before.wanted ≡ map (λ w. w.key) keys.items) × (after ≡ record before { wanted = [] })
+IsTakenFrom (RowsIn gaps) before after = (before.whole ≡ map owned_gap gaps.items) × (after ≡ record before { whole = [] })
 
-  -- rows came in the first gaps, in one at least, and those were taken that the side doesn't have; `left` are the gaps after rows that are not all
-  -- of their gap, and the others
-  abbrev pub HasParts : List (OwnedGap K) → List ℕ → Found K V → Found K V → List (OwnedGap K) → Type 0
-  HasParts gaps reply before after left = (told : List (OwnedGap K × Part K V)) × (behind : List (OwnedGap K)) × (rest : List (OwnedGap K))
-      × (reply ≡ front rows_in_kind ++ flat_map (part_in_bytes encoding values) told) × (told ≢ []) × (gaps ≡ map (λ t. t.0) told ++ rest)
-      × AllByRecursion (λ t. AscendIn laws.cmp (owned_gap t.0) (map (λ r. r.0) t.1.rows)) told × AreBehind laws.cmp told behind × (left ≡ behind ++ rest)
-      × AddsRows laws local (flat_map (λ t. t.1.rows) told) before after
-
-  -- a reply to a question was taken, after which this question is to be asked again, or none
-  abbrev pub HasTakenReply : Question K → List ℕ → Found K V → Found K V → Option (Question K) → Type 0
-  HasTakenReply (Root settings) reply before after again = (count : ℕ) × (digest : Option (List ℕ))
-      × (reply ≡ root_reply_bytes count digest) × IsRootTaken laws local digest before after × (again ≡ None)
-  HasTakenReply (Outlines most gaps) reply before after again = (left : List (OwnedGap K)) × HasOutlines (front outlines_kind) gaps.items reply before after left × AsksAgain (Outlines most) left again
-  HasTakenReply (Nodes most gaps) reply before after again = (left : List (OwnedGap K)) × HasOutlines (front nodes_kind) gaps.items reply before after left × AsksAgain (Nodes most) left again
-  HasTakenReply (RowsAt keys) reply before after again = (left : List (Wanted K)) × HasValues keys.items reply before after left × AsksAgain RowsAt left again
-  HasTakenReply (RowsIn gaps) reply before after again = (left : List (OwnedGap K)) × HasParts gaps.items reply before after left × AsksAgain RowsIn left again
+-- what is asked next is something, taken from what is found, or from that with all rows of the pages below; or nothing is to be asked for
+abbrev pub IsAskedOf : {K V : Type 0} → Option (Question K) → Found K V → Found K V → Type 0
+IsAskedOf None before after = AsksNothingMore after × (after ≡ before)
+IsAskedOf (Some question) before after = AsksForSome question × (IsTakenFrom question before after ⊎ IsTakenFrom question (record before { below = []; whole = before.whole ++ before.below }) after)

@@ -1,9 +1,9 @@
 //! The answering side: a reply to a message, with nothing kept between messages.
-ghost use Rattle.std.specs.Prelude.{◌≡◌, false, IsSome, IsTrue, IfOk, IfErr, IfSome, Some};
+ghost use Rattle.std.specs.Prelude.{◌≡◌, false, IsSome, IsTrue, IfOk, IfErr, IfSome, Some, length};
 ghost use Rattle.merkle_tree_theory.specs.State.{SameSettings, map_of};
 ghost use Rattle.merkle_wire.specs.Faults.{IsUnread, OfMessage, answer_error_text, AreOtherSettings};
 ghost use Rattle.merkle_wire.specs.Questions.{AsksNothing};
-ghost use Rattle.merkle_wire.specs.Replies.{EndsWithin, IsAnsweredBy, IsAnsweredWithin, IsReplyBy, AsksWithOthers, IsRootReply};
+ghost use Rattle.merkle_wire.specs.Replies.{EndsWithin, IsAnsweredBy, IsAnsweredWithin, AsksWithOthers, root_reply_bytes, root_page_digest, IsReply};
 ghost use Rattle.merkle_wire.specs.Replies.{TellsSettings};
 
 use crate::kept_side::KeptSide;
@@ -55,9 +55,10 @@ impl<T: Drop> From<AllocFailed<T>> for AnswerError {
 }
 
 impl From<ReadError> for AnswerError {
-    ghost use Rattle.merkle_wire.specs.Faults.{unread_message};
+    ghost use Rattle.merkle_wire.specs.Faults.{unread};
+    ghost use Rattle.merkle_wire.specs.declared.answering.AnswerError.TheVariants.{Malformed, Memory};
 
-    ghost from_gives = { λ error fault. fault ≡ unread_message error };
+    ghost from_gives = { λ error fault. fault ≡ unread Memory Malformed error };
 
     fn from(error: ReadError) -> Self {
         match error {
@@ -201,7 +202,8 @@ pub(crate) fn own_reply<
     replica: &mut Replica<K, V, H, N>,
     question: &Question<K>,
 ) -> Result<Option<Vec<u8>>, AllocError>
-    ensures own { IfOk result (λ own. IfSome own (IsReplyBy H.laws N K.encoding V.encoding replica.old.rows replica.new.tree question.now)) }
+    ensures own { IfOk result (λ own. IfSome own (λ reply. IsReply H.laws N K.encoding V.encoding
+        replica.old.rows replica.new.tree question.now reply.items)) }
     ensures rows { replica.new.rows ≡ replica.old.rows }
     ensures settings { SameSettings replica.old.tree replica.new.tree }
 {
@@ -229,8 +231,8 @@ fn reply_to<
     most_bytes: usize,
 ) -> Result<Vec<u8>, KeptError<S::Error>>
     requires hashed { IsSome (S.contents side.old beside.now).tree.root_hash }
-    ensures reply { IfOk result (IsReplyBy H.laws N K.encoding V.encoding (S.contents side.old beside.now).rows
-        (S.contents side.old beside.now).tree question.now) }
+    ensures reply { IfOk result (λ told. IsReply H.laws N K.encoding V.encoding (S.contents side.old beside.now).rows
+        (S.contents side.old beside.now).tree question.now told.items) }
     ensures within { IfOk result (λ reply. EndsWithin K.encoding V.encoding most_bytes question.now reply.items) }
     ensures read { IfErr result (OfMessage (λ error. ¬ IsUnread error)) }
     ensures others { IfErr result (OfMessage (λ error. AreOtherSettings error → ¬ TellsSettings H.laws N (S.contents side.old beside.now).tree question.now)) }
@@ -283,8 +285,8 @@ fn tell<
 ) -> Result<Vec<u8>, S::Error>
     requires hashed { IsSome (S.contents side.old beside.now).tree.root_hash }
     requires settings { TellsSettings H.laws N (S.contents side.old beside.now).tree question.now }
-    ensures reply { IfOk result (IsReplyBy H.laws N K.encoding V.encoding (S.contents side.old beside.now).rows
-        (S.contents side.old beside.now).tree question.now) }
+    ensures reply { IfOk result (λ told. IsReply H.laws N K.encoding V.encoding (S.contents side.old beside.now).rows
+        (S.contents side.old beside.now).tree question.now told.items) }
     ensures within { IfOk result (λ reply. EndsWithin K.encoding V.encoding most_bytes question.now reply.items) }
     ensures kept { S.contents side.new beside.now ≡ S.contents side.old beside.now }
 {
@@ -327,7 +329,8 @@ fn tell_root<
     const N: usize,
 >(alloc: Global, side: &mut S, beside: &R) -> Result<Vec<u8>, S::Error>
     requires hashed { IsSome (S.contents side.old beside.now).tree.root_hash }
-    ensures told { IfOk result (λ told. IsRootReply K.bytes_of (S.contents side.old beside.now).rows (S.contents side.old beside.now).tree told.items) }
+    ensures told { IfOk result (λ r. r.items ≡ root_reply_bytes (length (S.contents side.old beside.now).rows)
+        (root_page_digest K.bytes_of (S.contents side.old beside.now).tree)) }
     ensures kept { S.contents side.new beside.now ≡ S.contents side.old beside.now }
 {
     let count = side.count(beside)?;

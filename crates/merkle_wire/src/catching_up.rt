@@ -1,17 +1,18 @@
 //! The asking side: what to ask next, and the rows that came in the end.
-ghost use Rattle.std.specs.Prelude.{◌≡◌, ◌≤◌, IfOk, IfErr, IfSome, length};
+ghost use Rattle.std.specs.Prelude.{◌≡◌, ◌≤◌, IfOk, IfErr, IfSome, length, ℕ, ◌⊎◌};
 ghost use Rattle.merkle_replica.specs.Contents.{side};
 ghost use Rattle.merkle_tree_theory.specs.State.{SameSettings};
-ghost use Rattle.merkle_wire.specs.Asking.{AsksForOutlines};
 ghost use Rattle.merkle_wire.specs.Faults.{OfSession};
-ghost use Rattle.merkle_wire.specs.Found.{nothing};
+ghost use Rattle.merkle_wire.specs.Underway.{nothing};
 ghost use Rattle.merkle_wire.specs.ItsRows.{ForRowsOf, digests_of};
 ghost use Rattle.merkle_wire.specs.Limits.{Allows};
-ghost use Rattle.merkle_wire.specs.Next.{GoesOn, HasLeft, IsAsked, IsCame, IsEnded, IsStopped, IsTwice, OnlyAskedFor, StaysWithin, rounds_with, IfAsks, IsNext, IsStoppedOf};
+ghost use Rattle.merkle_wire.specs.Next.{GoesOn, HasLeft, IsAsked, IsCame, IsEnded, IsStopped, OnlyAskedFor, StaysWithin, rounds_with, IfAsks, IsNext, HaveTwins};
 ghost use Rattle.merkle_wire.specs.Questions.{AsksForRoot, IsQuestion, question_bytes};
-ghost use Rattle.merkle_wire.specs.Replies.{IsReplyBy};
+ghost use Rattle.merkle_wire.specs.Replies.{IsReply};
 ghost use Rattle.merkle_wire.specs.Sessions.{IsKeyOf};
-ghost use Rattle.merkle_wire.specs.declared.session_error.SessionError.TheVariants.{Memory, TooManyRounds};
+ghost use Rattle.merkle_wire.specs.declared.session_error.SessionError.TheVariants.{Memory, TooManyRounds, Twice};
+ghost use Rattle.std.specs.Global.{Vec};
+ghost use Rattle.merkle_wire.specs.declared.gaps.OwnedGap.{OwnedGap};
 
 use crate::answering::own_reply;
 use crate::kept_tree::KeptTree;
@@ -101,7 +102,7 @@ impl<K: Key + Decode, V: Join + Decode> CatchingUp<K, V> {
         alloc: Global,
         replica: &Replica<K, V, H, N>,
     ) -> Result<(Self, Vec<u8>), AllocError>
-        ensures settings { IfOk result (λ begun. AsksForRoot (⟦<H as Hasher<N, K>>⟧.digest_of replica.now.tree.hasher) N
+        ensures settings { IfOk result (λ begun. AsksForRoot ⟦<H as Hasher<N, K>>⟧.digest_of N
             (digests_of replica.now.tree) begun.0.asked) }
         ensures asks { IfOk result (λ begun. begun.1.items ≡ question_bytes K.encoding begun.0.asked) }
         ensures keys { IfOk result (λ begun. IsQuestion (IsKeyOf K.cmp replica.now.rows) begun.0.asked) }
@@ -120,7 +121,7 @@ impl<K: Key + Decode, V: Join + Decode> CatchingUp<K, V> {
         alloc: Global,
         tree: &MerkleSearchTree<K, V, H, N>,
     ) -> Result<(Self, Vec<u8>), AllocError>
-        ensures settings { IfOk result (λ begun. AsksForRoot (⟦<H as Hasher<N, K>>⟧.digest_of tree.now.hasher) N (digests_of tree.now) begun.0.asked) }
+        ensures settings { IfOk result (λ begun. AsksForRoot ⟦<H as Hasher<N, K>>⟧.digest_of N (digests_of tree.now) begun.0.asked) }
         ensures asks { IfOk result (λ begun. begun.1.items ≡ question_bytes K.encoding begun.0.asked) }
 
         // Whatever rows the tree has the digests of, the key that is told is one of theirs.
@@ -140,7 +141,7 @@ impl<K: Key + Decode, V: Join + Decode> CatchingUp<K, V> {
         alloc: Global,
         tree: &mut T,
     ) -> Result<(Self, Vec<u8>), T::Error>
-        ensures settings { IfOk result (λ begun. AsksForRoot (⟦<H as Hasher<N, K>>⟧.digest_of (T.kept tree.old).digests.hasher) N
+        ensures settings { IfOk result (λ begun. AsksForRoot ⟦<H as Hasher<N, K>>⟧.digest_of N
             (T.kept tree.old).digests begun.0.asked) }
         ensures asks { IfOk result (λ begun. begun.1.items ≡ question_bytes K.encoding begun.0.asked) }
 
@@ -188,7 +189,8 @@ impl<K: Key + Decode, V: Join + Decode> CatchingUp<K, V> {
         replica: &mut Replica<K, V, H, N>,
         with_rows: bool,
     ) -> Result<Option<Vec<u8>>, AllocError>
-        ensures own { IfOk result (λ own. IfSome own (IsReplyBy H.laws N K.encoding V.encoding replica.old.rows replica.new.tree self.now.asked)) }
+        ensures own { IfOk result (λ own. IfSome own (λ reply. IsReply H.laws N K.encoding V.encoding
+            replica.old.rows replica.new.tree self.now.asked reply.items)) }
         ensures rows { replica.new.rows ≡ replica.old.rows }
         ensures settings { SameSettings replica.old.tree replica.new.tree }
     {
@@ -258,8 +260,8 @@ impl<K: Key + Decode, V: Join + Decode> CatchingUp<K, V> {
         ensures few { IfOk result (IfAsks (λ session. session.rounds ≤ 256)) }
         ensures limits { IfOk result (StaysWithin self (length reply.now)) }
         ensures asked_for { IfOk result (λ next. ForRowsOf H.laws (T.kept tree.old).digests (λ local. OnlyAskedFor K.cmp self next)) }
-        ensures ended { IfErr result (OfSession (IsStoppedOf H.laws N K.encoding V.encoding (T.kept tree.old).digests K.is_value V.is_value
-            self reply.now)) }
+        ensures ended { IfErr result (OfSession H.laws (T.kept tree.old).digests
+            (λ local. IsStopped H.laws N K.encoding V.encoding K.is_value V.is_value local self reply.now)) }
         ensures kept { T.kept tree.new ≡ T.kept tree.old }
     {
         let CatchingUp {
@@ -335,7 +337,8 @@ fn rounds_with<K>(rounds: u32, question: &Question<K>) -> Result<u32, SessionErr
     requires { rounds ≤ 256 }
     ensures with { IfOk result (λ more. more ≡ rounds_with rounds question.now) }
     ensures few { IfOk result (λ more. more ≤ 256) }
-    ensures many { IfErr result (λ error. (error ≡ TooManyRounds) × (rounds ≡ 256) × AsksForOutlines question.now) }
+    ensures many { IfErr result (λ error. (error ≡ TooManyRounds) × (rounds ≡ 256)
+        × ((most : ℕ) × (gaps : Vec (OwnedGap K)) × (question.now ≡ Question.Outlines most gaps))) }
 {
     match question {
         Question::Outlines(_, _) => {
@@ -377,7 +380,7 @@ fn ask<K: Key + Decode, V: Join + Decode>(
 /// The rows in ascending key order.
 fn came<K: Key + Decode, V: Join + Decode>(rows: Vec<(K, V)>) -> Result<Next<K, V>, SessionError>
     ensures came { IfOk result (IsCame K.cmp rows.items) }
-    ensures ended { IfErr result (IsTwice K.cmp rows.items) }
+    ensures ended { IfErr result (λ error. (error ≡ Memory) ⊎ ((error ≡ Twice) × HaveTwins K.cmp rows.items)) }
 {
     let mut rows = rows;
     rows.sort_by(

@@ -1,5 +1,5 @@
 //! What came of a page, of a value or of the rows in a gap, as it is read.
-ghost use Rattle.std.specs.Prelude.{◌≡◌, ◌≢◌, ◌++◌, ◌∷◌, Option, [], length, ◌+◌, map, flat_map, OnOk, IfOk, IfErr};
+ghost use Rattle.std.specs.Prelude.{◌≡◌, ◌≢◌, ◌++◌, Option, [], length, ◌+◌, map, flat_map, OnOk, IfOk, IfErr, List, false};
 ghost use Rattle.std.specs.List.{AllByRecursion};
 ghost use Rattle.merkle_bytes.specs.Options.{IsOption, option_bytes};
 ghost use Rattle.merkle_bytes.specs.Reading.{BeginsWithNo, Reads};
@@ -8,9 +8,9 @@ ghost use Rattle.merkle_wire.specs.Coming.{AscendIn, IsPageDigest, LiesIn};
 ghost use Rattle.merkle_wire.specs.Faults.{IsRefusedFor};
 ghost use Rattle.merkle_wire.specs.Gaps.{owned_gap};
 ghost use Rattle.merkle_wire.specs.Outlines.{keys_among, outline_bytes, pages_bytes, nodes_bytes, page_bytes};
-ghost use Rattle.merkle_wire.specs.Reads.{ReadsPart, below_keys, digests_beside, nodes_read, outline_read, AddsBehind};
-ghost use Rattle.merkle_wire.specs.Fit.{AreNodesIn, NoOutline, NoRows, NoPart, NoPage, NoDigests};
-ghost use Rattle.merkle_wire.specs.Taking.{value_row};
+ghost use Rattle.merkle_wire.specs.Steps.{ReadsPart, below_keys, digests_beside, nodes_read, as_told};
+ghost use Rattle.merkle_wire.specs.Fit.{AreNodesIn, NoPage, NoOutline, NoRows, NoPart, NoDigests};
+ghost use Rattle.merkle_wire.specs.Taking.{value_row, IsBehind};
 
 use crate::gaps::OwnedGap;
 use crate::pages::decode_page;
@@ -56,8 +56,8 @@ pub(crate) fn read_outline<'a, K: Key + Decode, V: Join + Decode>(
     gap: &OwnedGap<K>,
 ) -> Result<OutlineRead<'a, K, V>, SessionError>
     ensures read { IfOk result (λ came. Reads reader.old
-        (outline_bytes K.encoding V.encoding (bound_key K.encoding [] gap.now.after) (outline_read came)) reader.new) }
-    ensures lies { IfOk result (λ came. LiesIn K.cmp digest_bytes (owned_gap gap.now) (outline_read came)) }
+        (outline_bytes K.encoding V.encoding (bound_key K.encoding [] gap.now.after) (as_told came)) reader.new) }
+    ensures lies { IfOk result (λ came. LiesIn K.cmp digest_bytes (owned_gap gap.now) (as_told came)) }
     ensures refused { IfErr result (IsRefusedFor (NoOutline K.cmp K.is_value V.is_value K.encoding V.encoding digest_bytes with_pages gap.now reader.old.left.now)) }
 {
     let mut run = KeyRun::behind(reader.alloc(), gap.after.as_ref())?;
@@ -235,7 +235,8 @@ fn add_behind<K: Key, V>(
     gap: &OwnedGap<K>,
     left: &mut Vec<OwnedGap<K>>,
 ) -> Result<(), SessionError>
-    ensures added { OnOk result (AddsBehind K.cmp rows.now gap.now left.old.items left.new.items) }
+    ensures added { OnOk result ((own : List _) × IsBehind K.cmp (owned_gap gap.now) (record { rows = rows.now; whole = false }) own
+        × (left.new.items ≡ left.old.items ++ own)) }
     ensures refused { IfErr result (IsRefusedFor (rows.now ≡ [])) }
 {
     let Some(last) = rows.last() else {

@@ -1,6 +1,6 @@
 //! Rows that are kept anywhere: in memory, in a file, in a database.
 ghost use Rattle.std.specs.Prelude.{◌≡◌, List, length, IfOk, OnOk};
-ghost use Rattle.merkle_wire.specs.Told.{AddsValueAt, TellsPart};
+ghost use Rattle.merkle_wire.specs.Steps.{AddsValueAt, TellsPart};
 
 use crate::gaps::OwnedGap;
 use crate::rows_in::tell_part;

@@ -3,8 +3,9 @@ ghost use Rattle.std.specs.Prelude.{◌≡◌, ◌↔◌, IfOk, OnOk, IsSome, Is
 ghost use Rattle.merkle_replica.specs.Contents.{Contents};
 ghost use Rattle.merkle_tree_theory.specs.State.{SameSettings, map_of};
 ghost use Rattle.merkle_wire.specs.Replies.{root_page_digest};
-ghost use Rattle.merkle_wire.specs.Told.{AddsValueAt, TellsPage, TellsPart};
-ghost use Rattle.merkle_wire.specs.Settings.{AreOwnSettings};
+ghost use Rattle.merkle_wire.specs.Steps.{AddsValueAt, TellsPage, TellsPart};
+ghost use Rattle.merkle_wire.specs.Settings.{AreSettingsBy};
+ghost use Rattle.merkle_wire.specs.ItsRows.{digests_of};
 
 use crate::gaps::OwnedGap;
 use crate::kept_rows::KeptRows;
@@ -30,7 +31,7 @@ pub trait KeptSide<const N: usize, K: Key + Encode, V: Join + Encode, H: RowHash
 
     /// Whether these are the settings of the tree.
     fn has_settings(&self, beside: &R, settings: &Settings<K>) -> bool
-        ensures { IsTrue result ↔ AreOwnSettings ⟦<H as Hasher<N, K>>⟧.digest_of N (contents self.now beside.now).tree settings.now };
+        ensures { IsTrue result ↔ AreSettingsBy ⟦<H as Hasher<N, K>>⟧.digest_of N (digests_of (contents self.now beside.now).tree) settings.now };
 
     /// Gives a digest to each page that lacks one. It comes before the calls below that tell of pages.
     fn hash(&mut self, beside: &R) -> Result<(), Self::Error>

@@ -1,6 +1,6 @@
 //! Laws over the definitions: a session of messages is a catch-up, whatever carries the messages; a session with an honest peer ends; what it costs;
 //! and when digests in it are faithful. The functions have no effect and take no memory.
-ghost use Rattle.merkle_wire.specs.SessionLaws.{AnswersAreTaken, BroughtRowsCatchUp, BroughtRowsJoin, LackedKeysAreTold, LackedPagesAreTold};
+ghost use Rattle.merkle_wire.specs.SessionLaws.{AnswersAreTaken, BroughtRowsCatchUp, LackedKeysAreTold, LackedPagesAreTold};
 ghost use Rattle.merkle_wire.specs.SessionLaws.{NoCollisionIsFaithful, OwnPagesAreKnown, SessionsBring, SessionsEnd};
 
 use merkle_bytes::Decode;
@@ -22,7 +22,6 @@ pub fn a_session_is_a_catch_up<
 >()
     ensures brings { SessionsBring H.laws N K.encoding V.encoding }
     ensures catch_up { BroughtRowsCatchUp H.laws }
-    ensures joins { BroughtRowsJoin H.laws }
 {
     a_map_has_one_tree::<K, H, N>();
 }

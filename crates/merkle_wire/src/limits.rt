@@ -1,6 +1,6 @@
 //! How much a catch-up takes of its peer at most.
 ghost use Rattle.std.specs.Prelude.{◌≡◌, IfOk, IfErr, MatchOption, OnOk, Some};
-ghost use Rattle.merkle_wire.specs.Limits.{Allows, IsAbove, IsLeftAfter, IsLeftOf, IsOverLimit, IsOverRows, limit_text, no_limits};
+ghost use Rattle.merkle_wire.specs.Limits.{Allows, IsLeftOf, IsOverLimit, limit_text, no_limits};
 
 use crate::session_error::SessionError;
 use std::fmt;
@@ -54,7 +54,7 @@ impl Limits {
 
     /// What a reply of this many bytes leaves.
     pub(crate) fn after(self, bytes: usize) -> Result<Limits, SessionError>
-        ensures left { IfOk result (IsLeftAfter bytes self) }
+        ensures left { IfOk result (λ left. IsLeftOf self.replies 1 left.replies × IsLeftOf self.bytes bytes left.bytes × (left.rows ≡ self.rows)) }
         ensures over { IfErr result (IsOverLimit bytes self) }
     {
         let Some(replies) = less(self.replies, 1) else {
@@ -73,7 +73,7 @@ impl Limits {
     /// Whether so many rows may have been found.
     pub(crate) fn check_rows(&self, rows: usize) -> Result<(), SessionError>
         ensures within { OnOk result (Allows self.now.rows rows) }
-        ensures over { IfErr result (IsOverRows rows self.now) }
+        ensures over { IfErr result (λ error. (error ≡ SessionError.Limit Limit.Rows) × ¬ Allows self.now.rows rows) }
     {
         match self.rows {
             Some(most) if most < rows as u64 => Err(SessionError::Limit(Limit::Rows)),
@@ -84,7 +84,7 @@ impl Limits {
 
 /// What is left of a limit after this many more, or none where they are too many.
 fn less(limit: Option<u64>, number: u64) -> Option<Option<u64>>
-    ensures { MatchOption result (IsAbove number limit) (IsLeftOf limit number) }
+    ensures { MatchOption result (¬ Allows limit number) (IsLeftOf limit number) }
 {
     match limit {
         None => Some(None),

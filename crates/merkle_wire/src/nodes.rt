@@ -1,10 +1,11 @@
 //! The nodes of a page in messages.
-ghost use Rattle.std.specs.Prelude.{◌≡◌, ◌+◌, ◌<◌, ◌^◌, ◌++◌, ◌∷◌, IfOk, IfSome, OnOk, flat_map};
+ghost use Rattle.std.specs.Prelude.{◌≡◌, ◌+◌, ◌<◌, ◌^◌, ◌++◌, ◌∷◌, IfOk, IfSome, OnOk, flat_map, []};
 ghost use Rattle.merkle_bytes.specs.Counts.{count_bytes};
 ghost use Rattle.merkle_bytes.specs.Encodings.{AddsBytes};
-ghost use Rattle.merkle_search_tree.specs.Items.{items};
+ghost use Rattle.merkle_search_tree.specs.Items.{items, bound_of};
 ghost use Rattle.merkle_wire.specs.Outlines.{nodes_among, nodes_digest, nodes_bytes, AreNodes, keys_told, keys_among, node_pairs};
-ghost use Rattle.merkle_wire.specs.Told.{AddsRowAt, AreRowsOfNodes, bound_before, AddsTold};
+ghost use Rattle.merkle_wire.specs.Steps.{AddsRowAt, AreRowsOfNodes, AddsTold};
+ghost use Rattle.merkle_bytes.specs.Runs.{bound_key};
 
 use crate::kept_rows::KeptRows;
 use merkle_bytes::{Encode, KeyRun, encode_count};
@@ -66,8 +67,8 @@ pub(crate) fn write_nodes<K: Key + Encode, V: Encode, R: KeptRows<K, V>, const N
     after: Option<&K>,
     bytes: &mut Vec<u8>,
 ) -> Result<(), R::Error>
-    ensures { OnOk result (AddsTold K.encoding V.encoding (AreNodes K.cmp (R.rows rows.now) (node_pairs nodes.now)) (bound_before K.encoding after.entry)
-        bytes.old bytes.new) }
+    ensures { OnOk result (AddsTold K.encoding V.encoding (AreNodes K.cmp (R.rows rows.now) (node_pairs nodes.now))
+        (bound_of after.entry) bytes.old bytes.new) }
 {
     match short_rows(alloc, rows, nodes, most, after)? {
         Some(told) => {
@@ -98,7 +99,7 @@ fn short_rows<K: Key + Encode, V: Encode, R: KeptRows<K, V>, const N: usize>(
     after: Option<&K>,
 ) -> Result<Option<ToldRows>, R::Error>
     ensures { IfOk result (λ found. IfSome found
-        (AreRowsOfNodes K.cmp K.encoding V.encoding (R.rows rows.now) nodes.now (bound_before K.encoding after.entry))) }
+        (AreRowsOfNodes K.cmp K.encoding V.encoding (R.rows rows.now) nodes.now (bound_key K.encoding [] (bound_of after.entry)))) }
 {
     if !rows.are_at_hand() {
         return Ok(None);

@@ -1,11 +1,11 @@
 //! What the answering side tells of pages.
-ghost use Rattle.std.specs.Prelude.{◌≡◌, ◌++◌, ◌∷◌, true, false, IfOk, OnOk, IsSome, IsTrue, None};
+ghost use Rattle.std.specs.Prelude.{◌≡◌, ◌∷◌, true, false, IfOk, OnOk, IsSome, IsTrue, None, ⊤};
 ghost use Rattle.merkle_bytes.specs.Encodings.{AddsBytes};
-ghost use Rattle.merkle_search_tree.specs.Items.{items};
+ghost use Rattle.merkle_search_tree.specs.Items.{items, bound_of};
 ghost use Rattle.merkle_wire.specs.Messages.{front};
-ghost use Rattle.merkle_wire.specs.Outlines.{HasNoPage, pages_beside, pages_bytes, nodes_digest};
-ghost use Rattle.merkle_wire.specs.Replies.{IsNotFull, IsFull, items_over, outline_over_bytes, EntriesFit};
-ghost use Rattle.merkle_wire.specs.Told.{bound_before, TellsPages, TellsItems, lent_page_bytes};
+ghost use Rattle.merkle_wire.specs.Outlines.{HasNoPage, pages_beside, pages_bytes, nodes_digest, IsTold};
+ghost use Rattle.merkle_wire.specs.Replies.{IsFull, items_over, outline_over_bytes, TellsWhatFits};
+ghost use Rattle.merkle_wire.specs.Steps.{AddsTold, TellsPages, lent_page_bytes};
 
 use crate::gaps::OwnedGap;
 use crate::kept_rows::KeptRows;
@@ -49,8 +49,10 @@ pub(crate) fn tell_pages<
     gaps: &[OwnedGap<K>],
 ) -> Result<Vec<u8>, S::Error>
     requires hashed { IsSome (S.contents side.old beside.now).tree.root_hash }
-    ensures told { IfOk result (TellsPages K.cmp K.bytes_of K.encoding V.encoding (S.contents side.old beside.now) telling kind gaps.now) }
-    ensures fits { IfOk result (λ reply. EntriesFit (outline_over_bytes K.encoding V.encoding) most_bytes gaps.now (front kind) reply.items) }
+    ensures told { IfOk result (λ told. TellsPages K.cmp K.bytes_of K.encoding V.encoding (S.contents side.old beside.now) telling
+        kind gaps.now told.items) }
+    ensures fits { IfOk result (λ reply. TellsWhatFits (outline_over_bytes K.encoding V.encoding) (λ bytes t. ⊤)
+        most_bytes gaps.now (front kind) reply.items) }
     ensures kept { S.contents side.new beside.now ≡ S.contents side.old beside.now }
 {
     let mut bytes = begin(alloc, kind)?;
@@ -66,7 +68,7 @@ pub(crate) fn tell_pages<
 /// Whether a message that has an entry has as many bytes as it may have.
 pub(crate) fn is_full(bytes: &[u8], most: usize) -> bool
     ensures full { IsTrue result → IsFull most bytes.now }
-    ensures room { result ≡ false → IsNotFull most bytes.now }
+    ensures room { result ≡ false → ¬ IsFull most bytes.now }
 {
     bytes.len() > FRONT && bytes.len() >= most
 }
@@ -100,8 +102,8 @@ pub fn tell_outline<K: Key + Encode + Drop, V: Encode, R: KeptRows<K, V>, const 
     after: Option<&K>,
     bytes: &mut Vec<u8>,
 ) -> Result<(), R::Error>
-    ensures { OnOk result (TellsItems K.cmp K.encoding V.encoding (R.rows rows.now) telling (items list.now)
-        (bound_before K.encoding after.entry) bytes.old bytes.new) }
+    ensures { OnOk result (AddsTold K.encoding V.encoding (IsTold K.cmp (R.rows rows.now) telling.with_pages (items list.now))
+        (bound_of after.entry) bytes.old bytes.new) }
 {
     let nodes = nodes_of(alloc, list)?;
     if are_told(telling.with_pages, list) {

@@ -1,13 +1,15 @@
 //! Replies that came, read: each answers the first of what was asked for, or all of it.
-ghost use Rattle.std.specs.Prelude.{◌≡◌, ◌≢◌, ◌++◌, ℕ, List, [], flat_map, length, IfOk, IfErr, OnOk};
+ghost use Rattle.std.specs.Prelude.{◌≡◌, ◌≢◌, ◌++◌, ℕ, List, [], length, IfOk, IfErr, OnOk, Option, ◌<◌, ◌^◌};
 ghost use Rattle.merkle_bytes.specs.Reading.{Reads};
 ghost use Rattle.merkle_wire.specs.Faults.{IsRefusedFor};
-ghost use Rattle.merkle_wire.specs.Fit.{SaysRoot, SaysOutlines, IsFit, Says, SaysSo, NoParts, SaysParts};
+ghost use Rattle.merkle_wire.specs.Fit.{IsFit, Says, NoParts, SaysOutlines};
 ghost use Rattle.merkle_wire.specs.Messages.{front};
-ghost use Rattle.merkle_wire.specs.Reads.{IsReplyRead, ReadsOutlines, ReadsParts, ReadsPartsOf, ReadsValues, outlines_read};
+ghost use Rattle.merkle_wire.specs.Steps.{IsReplyRead, ReadsPartsOf, outlines_read};
 ghost use Rattle.merkle_wire.specs.Replies.{root_reply_bytes, value_at_bytes};
-ghost use Rattle.merkle_wire.specs.declared.message.Kind.TheVariants.{Root as root_kind, RowsAt as rows_at_kind, RowsIn as rows_in_kind};
+ghost use Rattle.merkle_wire.specs.declared.message.Kind.TheVariants.{RowsAt as rows_at_kind};
 ghost use Rattle.merkle_bytes.specs.Options.{IsOption};
+ghost use Rattle.merkle_wire.specs.Taking.{ValuesCome, PartsCome};
+ghost use Rattle.merkle_wire.specs.Coming.{OutlinesCome, IsPageDigest};
 
 use crate::coming::{OutlineRead, read_outline, read_part, read_value};
 use crate::gaps::OwnedGap;
@@ -67,7 +69,8 @@ pub(crate) enum Reply<'a, K, V> {
 /// How many rows the peer has, and the digest of its root page, or none.
 fn decode_root(alloc: Global, reply: &[u8]) -> Result<(u64, Option<PageDigest>), SessionError>
     ensures read { IfOk result (λ root. reply.now ≡ root_reply_bytes root.0 root.1) }
-    ensures refused { IfErr result (IsRefusedFor (¬ SaysSo root_kind SaysRoot reply.now)) }
+    ensures refused { IfErr result (IsRefusedFor (¬ ((count : ℕ) × (digest : Option _) × (count < 2 ^ 64) × IsPageDigest digest
+        × (reply.now ≡ root_reply_bytes count digest)))) }
 {
     let mut reader = Reader::new(alloc, reply);
     expect(&mut reader, Kind::Root)?;
@@ -86,10 +89,10 @@ fn read_outlines<'a, K: Key + Decode, V: Join + Decode>(
     gaps: Vec<OwnedGap<K>>,
     reply: &'a [u8],
 ) -> Result<(Vec<OutlineOver<'a, K, V>>, Vec<OwnedGap<K>>), SessionError>
-    ensures read { IfOk result (λ came. ReadsOutlines K.cmp K.encoding V.encoding digest_bytes kind gaps.items reply.now
-        (outlines_read came.0.items) came.1.items) }
-    ensures refused { IfErr result (IsRefusedFor (¬ SaysSo kind
-        (SaysOutlines K.cmp K.is_value V.is_value K.encoding V.encoding digest_bytes with_pages gaps.items) reply.now)) }
+    ensures read { IfOk result (λ came. OutlinesCome K.cmp K.encoding V.encoding digest_bytes kind (λ told. told ≡ outlines_read came.0.items)
+        gaps.items reply.now came.1.items) }
+    ensures refused { IfErr result (IsRefusedFor (¬ SaysOutlines K.cmp K.is_value V.is_value K.encoding V.encoding digest_bytes kind with_pages
+        gaps.items reply.now)) }
 {
     let mut reader = reader_of(alloc, reply, kind)?;
     let mut told = Vec::new(alloc);
@@ -112,9 +115,8 @@ fn read_values<K: Key + Decode, V: Join + Decode>(
     keys: Vec<Wanted<K>>,
     reply: &[u8],
 ) -> Result<(Vec<(K, V)>, Vec<Wanted<K>>), SessionError>
-    ensures read { IfOk result (λ came. ReadsValues V.encoding keys.items reply.now came.0.items came.1.items) }
-    ensures refused { IfErr result (IsRefusedFor (¬ SaysSo rows_at_kind
-        (Says (λ wanted. IsOption V.is_value) (flat_map (value_at_bytes V.encoding)) keys.items) reply.now)) }
+    ensures read { IfOk result (λ came. ValuesCome V.encoding (λ rows. came.0.items ≡ rows) keys.items reply.now came.1.items) }
+    ensures refused { IfErr result (IsRefusedFor (¬ Says rows_at_kind (value_at_bytes V.encoding) (λ w. IsOption V.is_value) keys.items reply.now)) }
 {
     let mut reader = reader_of(alloc, reply, Kind::RowsAt)?;
     let mut rows = Vec::new(alloc);
@@ -137,8 +139,8 @@ fn read_parts<K: Key + Decode, V: Join + Decode>(
     gaps: Vec<OwnedGap<K>>,
     reply: &[u8],
 ) -> Result<(Vec<(K, V)>, Vec<OwnedGap<K>>), SessionError>
-    ensures read { IfOk result (λ came. ReadsParts K.cmp K.encoding V.encoding gaps.items reply.now came.0.items came.1.items) }
-    ensures refused { IfErr result (IsRefusedFor (¬ SaysSo rows_in_kind (SaysParts K.cmp K.is_value V.is_value K.encoding V.encoding gaps.items) reply.now)) }
+    ensures read { IfOk result (λ came. PartsCome K.cmp K.encoding V.encoding (λ rows. came.0.items ≡ rows) gaps.items reply.now came.1.items) }
+    ensures refused { IfErr result (IsRefusedFor (¬ IsFit K.cmp K.is_value V.is_value K.encoding V.encoding 0 (Question.RowsIn gaps) reply.now)) }
 {
     let mut gaps = gaps;
     let mut rows = Vec::new(alloc);

@@ -1,10 +1,10 @@
 //! The values of a side at keys.
-ghost use Rattle.std.specs.Prelude.{◌≡◌, ◌++◌, ◌∷◌, IfOk, OnOk};
+ghost use Rattle.std.specs.Prelude.{◌≡◌, ◌++◌, ◌∷◌, IfOk, OnOk, ⊤};
 ghost use Rattle.key_order.specs.Map.{get};
 ghost use Rattle.merkle_bytes.specs.Encodings.{AddsBytes};
 ghost use Rattle.merkle_bytes.specs.Options.{option_bytes};
 ghost use Rattle.merkle_wire.specs.Messages.{front};
-ghost use Rattle.merkle_wire.specs.Replies.{AnswersFirst, value_at_bytes, EntriesFit, IsValueFor};
+ghost use Rattle.merkle_wire.specs.Replies.{AnswersFirst, value_at_bytes, TellsWhatFits};
 
 use crate::kept_side::KeptSide;
 use crate::message::{Kind, begin};
@@ -30,10 +30,11 @@ pub(crate) fn tell_values<
     most_bytes: usize,
     keys: &[Wanted<K>],
 ) -> Result<Vec<u8>, S::Error>
-    ensures told { IfOk result (λ reply. AnswersFirst Kind.RowsAt (value_at_bytes V.encoding)
-        (IsValueFor K.cmp (S.contents side.old beside.now).rows) keys.now reply.items) }
+    ensures told { IfOk result (λ r. AnswersFirst Kind.RowsAt (value_at_bytes V.encoding)
+        (λ w v. v ≡ get K.cmp (S.contents side.old beside.now).rows w.key) keys.now r.items) }
     ensures kept { S.contents side.new beside.now ≡ S.contents side.old beside.now }
-    ensures fits { IfOk result (λ reply. EntriesFit (value_at_bytes V.encoding) most_bytes keys.now (front Kind.RowsAt) reply.items) }
+    ensures fits { IfOk result (λ reply. TellsWhatFits (value_at_bytes V.encoding) (λ bytes t. ⊤)
+        most_bytes keys.now (front Kind.RowsAt) reply.items) }
 {
     let mut bytes = begin(alloc, Kind::RowsAt)?;
     'keys: for wanted in keys {

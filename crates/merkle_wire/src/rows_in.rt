@@ -6,8 +6,9 @@ ghost use Rattle.merkle_tree_theory.specs.Gap.{is_after, is_before, pairs_within
 ghost use Rattle.merkle_bytes.specs.Encodings.{AddsBytes};
 ghost use Rattle.merkle_wire.specs.Gaps.{owned_gap};
 ghost use Rattle.merkle_wire.specs.Messages.{front};
-ghost use Rattle.merkle_wire.specs.Told.{TellsPart};
-ghost use Rattle.merkle_wire.specs.Replies.{AnswersFirst, part_in_bytes, IsPartOf, rows_bytes, PartsFit};
+ghost use Rattle.merkle_wire.specs.Steps.{TellsPart};
+ghost use Rattle.merkle_wire.specs.Replies.{AnswersFirst, part_in_bytes, IsPartOf, rows_bytes, TellsWhatFits, RowsFit};
+ghost use Rattle.merkle_wire.specs.declared.message.Kind.TheVariants.{RowsIn};
 
 use crate::gaps::OwnedGap;
 use crate::kept_side::KeptSide;
@@ -36,7 +37,8 @@ pub(crate) fn tell_rows<
     ensures told { IfOk result (λ told. AnswersFirst Kind.RowsIn (part_in_bytes K.encoding V.encoding)
         (IsPartOf K.cmp (S.contents side.old beside.now).rows) gaps.now told.items) }
     ensures kept { S.contents side.new beside.now ≡ S.contents side.old beside.now }
-    ensures fits { IfOk result (λ reply. PartsFit K.encoding V.encoding most_bytes gaps.now (front Kind.RowsIn) reply.items) }
+    ensures fits { IfOk result (λ r. TellsWhatFits (part_in_bytes K.encoding V.encoding) (RowsFit K.encoding V.encoding most_bytes)
+        most_bytes gaps.now (front RowsIn) r.items) }
 {
     let mut bytes = begin(alloc, Kind::RowsIn)?;
     'gaps: for gap in gaps {

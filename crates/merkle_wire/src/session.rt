@@ -1,12 +1,12 @@
 //! A whole catch-up between two replicas, through messages.
 ghost use Rattle.std.specs.Prelude.{◌≡◌, IfOk, IfErr, OnOk, Some, ◌<◌};
-ghost use Rattle.merkle_replica.specs.Contents.{side};
+ghost use Rattle.merkle_replica.specs.Contents.{side, with_rows};
 ghost use Rattle.merkle_tree_theory.specs.State.{SameSettings};
 ghost use Rattle.merkle_wire.specs.Faults.{both_messages_error_text, messages_error_text};
-ghost use Rattle.merkle_wire.specs.Found.{nothing};
+ghost use Rattle.merkle_wire.specs.Underway.{nothing};
 ghost use Rattle.merkle_wire.specs.Limits.{no_limits};
 ghost use Rattle.merkle_wire.specs.Questions.{IsQuestion, question_bytes, AsksForRoot};
-ghost use Rattle.merkle_wire.specs.Sessions.{AreBothRefused, AreBrought, HasJoined, IsFaithfulSession, IsMessagesRefused, HaveJoined, BothHoldTheJoin};
+ghost use Rattle.merkle_wire.specs.Sessions.{AreBothRefused, AreBrought, HasJoined, IsFaithfulSession, IsMessagesRefused, BothHoldTheJoin};
 ghost use Rattle.merkle_wire.specs.Sessions.{EndsBeforeJoin};
 ghost use Rattle.merkle_wire.specs.Sessions.{IsKeyOf, IsForMemory};
 ghost use Rattle.merkle_wire.specs.Next.{IfAsks};
@@ -141,7 +141,8 @@ pub fn catch_up_both_by_messages<
     a: &mut Replica<K, V, H, N>,
     b: &mut Replica<K, V, H, N>,
 ) -> Result<(usize, usize), BothMessagesError>
-    ensures joined { IfOk result (HaveJoined H.laws a.old b.old a.new b.new) }
+    ensures joined { IfOk result (λ joined. HasJoined H.laws (side a.old) (side b.old) joined.0 a.new.rows) }
+    ensures joined_back { IfOk result (λ joined. HasJoined H.laws (side b.old) (with_rows (side a.old) a.new.rows) joined.1 b.new.rows) }
 
     // While digests are faithful before each of them, both then hold the join.
     ensures join { OnOk result (BothHoldTheJoin H.laws a.old b.old a.new b.new) }
@@ -195,7 +196,7 @@ fn begin_without_limits<K: Key + Decode, V: Join + Decode, H: RowHasher<N, K, V>
     alloc: Global,
     replica: &Replica<K, V, H, N>,
 ) -> Result<(CatchingUp<K, V>, Vec<u8>), AllocError>
-    ensures settings { IfOk result (λ begun. AsksForRoot (⟦<H as Hasher<N, K>>⟧.digest_of replica.now.tree.hasher) N
+    ensures settings { IfOk result (λ begun. AsksForRoot ⟦<H as Hasher<N, K>>⟧.digest_of N
         (digests_of replica.now.tree) begun.0.asked) }
     ensures asks { IfOk result (λ begun. begun.1.items ≡ question_bytes K.encoding begun.0.asked) }
     ensures keys { IfOk result (λ begun. IsQuestion (IsKeyOf K.cmp replica.now.rows) begun.0.asked) }

@@ -6,8 +6,9 @@ ghost use Rattle.merkle_bytes.specs.Refusals.{IsMalformed, IsRefusal};
 ghost use Rattle.merkle_bytes.specs.Options.{IsOption};
 ghost use Rattle.merkle_tree_theory.specs.State.{map_of};
 ghost use Rattle.merkle_tree_theory.specs.declared.page_format.PageFormat.{PageFormat as PageFormatOf};
-ghost use Rattle.merkle_wire.specs.Settings.{format_byte, settings_bytes, AreSettings, AreSettingsBy, IsDigested, AreOwnSettings};
+ghost use Rattle.merkle_wire.specs.Settings.{format_byte, settings_bytes, AreSettings, AreSettingsBy, IsDigested};
 ghost use Rattle.merkle_wire.specs.Sessions.{IsKeyOf};
+ghost use Rattle.merkle_wire.specs.ItsRows.{digests_of};
 
 use crate::kept_tree::{KeptTree, first_key};
 use merkle_bytes::{Decode, Encode, Expected, ReadError, Reader, encode_count};
@@ -93,7 +94,7 @@ pub(crate) fn settings_of<K: Key + Drop, V: Join, H: RowHasher<N, K, V>, const N
     alloc: Global,
     tree: &MerkleSearchTree<K, V, H, N>,
 ) -> Result<Settings<K>, AllocError>
-    ensures settings { IfOk result (AreOwnSettings ⟦<H as Hasher<N, K>>⟧.digest_of N tree.now) }
+    ensures settings { IfOk result (AreSettingsBy ⟦<H as Hasher<N, K>>⟧.digest_of N (digests_of tree.now)) }
     ensures keys { IfOk result (AreSettings (IsKeyOf K.cmp (map_of tree.now))) }
 {
     Ok(Settings {
@@ -128,7 +129,7 @@ pub(crate) fn settings_by<
     T: KeptTree<N, K, V, H>,
     const N: usize,
 >(alloc: Global, tree: &mut T) -> Result<Settings<K>, T::Error>
-    ensures settings { IfOk result (AreSettingsBy (⟦<H as Hasher<N, K>>⟧.digest_of (T.kept tree.old).digests.hasher) N (T.kept tree.old).digests) }
+    ensures settings { IfOk result (AreSettingsBy ⟦<H as Hasher<N, K>>⟧.digest_of N (T.kept tree.old).digests) }
     ensures keys { IfOk result (AreSettings (IsKeyOf K.cmp (T.kept tree.old).digests.map)) }
     ensures kept { T.kept tree.new ≡ T.kept tree.old }
 {
@@ -166,7 +167,7 @@ pub(crate) fn agree<K: Key, V, H: Hasher<N, K>, const N: usize>(
     tree: &MerkleSearchTree<K, V, H, N>,
     settings: &Settings<K>,
 ) -> bool
-    ensures { IsTrue result ↔ AreOwnSettings H.digest_of N tree.now settings.now }
+    ensures { IsTrue result ↔ AreSettingsBy H.digest_of N (digests_of tree.now) settings.now }
 {
     if settings.level_base != tree.level_base().get() {
         return false;

@@ -1,8 +1,8 @@
 //! Whether what came is there already, by a tree of digests.
 ghost use Rattle.std.specs.Prelude.{◌≡◌, false, IfOk, IsTrue};
 ghost use Rattle.merkle_wire.specs.ItsRows.{ForRowsOf};
-ghost use Rattle.merkle_wire.specs.Reads.{below_keys};
-ghost use Rattle.merkle_wire.specs.Taking.{HasNodes, has_digest, has_row, is_digest};
+ghost use Rattle.merkle_wire.specs.Steps.{below_keys};
+ghost use Rattle.merkle_wire.specs.Taking.{HasNodes, has_digest, is_digest};
 
 use crate::kept_tree::KeptTree;
 use crate::wanted::Wanted;
@@ -42,7 +42,8 @@ pub(crate) fn has_value<
     T: KeptTree<N, K, V, H>,
     const N: usize,
 >(tree: &mut T, key: &K, value: &V) -> Result<bool, T::Error>
-    ensures has { IfOk result (λ has. ForRowsOf H.laws (T.kept tree.old).digests (λ local. has ≡ has_row H.laws local (key.now, value.now))) }
+    ensures has { IfOk result (λ has. ForRowsOf H.laws (T.kept tree.old).digests
+        (λ local. has ≡ has_digest H.laws local key.now (H.laws.value_digest local.hasher value.now))) }
     ensures kept { T.kept tree.new ≡ T.kept tree.old }
 {
     let digest = tree.digest_of(value);

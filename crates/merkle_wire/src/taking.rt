@@ -2,8 +2,8 @@
 ghost use Rattle.std.specs.Prelude.{◌≡◌, OnOk};
 ghost use Rattle.merkle_wire.specs.Gaps.{between, owned_gap};
 ghost use Rattle.merkle_wire.specs.ItsRows.{ForRowsOf};
-ghost use Rattle.merkle_wire.specs.Reads.{nodes_read, outline_read, outlines_read, AddsBelow, IsReplyTaken, page_read, AddsGapsBeside};
-ghost use Rattle.merkle_wire.specs.Taking.{AddsKeys, AddsRows, AreTaken, IsRootTaken, IsPageTaken};
+ghost use Rattle.merkle_wire.specs.Steps.{nodes_read, as_told, outlines_read, IsReplyTaken, AddsGaps, AddsGapsBeside};
+ghost use Rattle.merkle_wire.specs.Taking.{AddsRows, AreTaken, IsRootTaken, IsPageTaken, IsNewGap, AddsKeys};
 
 use crate::coming::{NodeRead, OutlineRead, PageRead};
 use crate::gaps::OwnedGap;
@@ -114,7 +114,7 @@ fn take_outline<
     work: &mut Work<K, V>,
 ) -> Result<(), T::Error>
     ensures taken { OnOk result (ForRowsOf H.laws (T.kept tree.old).digests
-        (λ local. IsPageTaken H.laws local (owned_gap gap.now) (outline_read came.entry) work.old work.new)) }
+        (λ local. IsPageTaken H.laws local (owned_gap gap.now) (as_told came.entry) work.old work.new)) }
     ensures kept { T.kept tree.new ≡ T.kept tree.old }
 {
     match came {
@@ -186,7 +186,7 @@ fn take_page<
     work: &mut Work<K, V>,
 ) -> Result<(), T::Error>
     ensures taken { OnOk result (ForRowsOf H.laws (T.kept tree.old).digests
-        (λ local. IsPageTaken H.laws local (owned_gap gap.now) (page_read page.now) work.old work.new)) }
+        (λ s. IsPageTaken H.laws s (owned_gap gap.now) (as_told (OutlineRead.Page page.now)) work.old work.new)) }
     ensures kept { T.kept tree.new ≡ T.kept tree.old }
 {
     take_pages(tree, gap, &page.below, &page.last, work)?;
@@ -241,7 +241,7 @@ fn take_below<
     work: &mut Work<K, V>,
 ) -> Result<(), T::Error>
     ensures added { OnOk result (ForRowsOf H.laws (T.kept tree.old).digests
-        (λ local. AddsBelow H.laws local (between after.entry before.entry) digest.now work.old work.new)) }
+        (λ own. AddsGaps (IsNewGap H.laws own (between after.entry before.entry) digest.now) work.old work.new)) }
     ensures kept { T.kept tree.new ≡ T.kept tree.old }
 {
     let Some(digest) = digest else {

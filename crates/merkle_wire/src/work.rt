@@ -1,6 +1,6 @@
 //! What a catch-up has found and is still to ask for.
 ghost use Rattle.std.specs.Prelude.{◌≡◌, ◌++◌, ◌∷◌, [], cond, not, length, IfOk, OnOk};
-ghost use Rattle.merkle_wire.specs.Asking.{IsAskedOf};
+ghost use Rattle.merkle_wire.specs.Underway.{IsAskedOf};
 ghost use Rattle.merkle_wire.specs.Gaps.{owned_gap};
 
 use crate::gaps::OwnedGap;
@@ -33,7 +33,7 @@ pub(crate) struct Work<K, V> {
 
 impl<K, V> Model for Work<K, V> {
     ghost use Rattle.std.specs.Prelude.{map};
-    ghost use Rattle.merkle_wire.specs.Found.{Found};
+    ghost use Rattle.merkle_wire.specs.Underway.{Found};
     ghost use Rattle.merkle_wire.specs.Gaps.{owned_gap};
 
     ghost Value = { Found K V };
@@ -72,7 +72,7 @@ impl Seen {
 }
 
 impl<K, V> Work<K, V> {
-    ghost use Rattle.merkle_wire.specs.Found.{nothing};
+    ghost use Rattle.merkle_wire.specs.Underway.{nothing};
 
     /// Nothing.
     pub(crate) fn new(alloc: Global) -> Self

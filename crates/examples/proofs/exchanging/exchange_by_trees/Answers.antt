@@ -1,4 +1,4 @@
-use Rattle.std.proofs.Common.{◌≡◌, sym, subst}
+use Rattle.std.proofs.Common.{◌≡◌, sym, subst, ◌∙◌}
 use Rattle.key_order.specs.Map.{SameMap}
 use Rattle.merkle_replica.specs.Contents.{tree_map}
 use Rattle.merkle_replica.proofs.SideLaws.{laws_of}
@@ -17,11 +17,9 @@ returns-in-Ok-take_by-clause-exchanged g c = rw g.met.H.RowHasher.laws_are (λ o
     record {
       reply = c.in-Ok.reply.items;
       answer = record {
-        message = c.args.message.now;
         question = question;
         tree = tree;
-        asks = c.requires.asks;
-        reads = read;
+        reads = sym c.requires.asks ∙ read;
         settings = settings;
         of_peer = (
           rw (settings.0, settings.1) at c.every_tree_is_sound.ensures.sound.canonical,

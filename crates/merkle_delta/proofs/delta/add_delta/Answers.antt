@@ -2,8 +2,7 @@ use Rattle.std.proofs.Common.{rules, ◌≡◌, ◌++◌, refl, sym, ap, subst, 
 use Rattle.std.specs.List.{flat_map}
 use Rattle.std.proofs.lemmas.List.{append_assoc}
 use Rattle.merkle_delta.specs.Chunks.{digest_of}
-use Rattle.merkle_delta.specs.Deltas.{step_bytes}
-use Rattle.merkle_delta.specs.Steps.{AddsSteps}
+use Rattle.merkle_delta.specs.Deltas.{step_bytes, AddsSteps}
 use Rattle.merkle_delta.proofs.Cutting.{chunks_whole}
 use Rattle.merkle_delta.proofs.delta.add_delta.Goals as goal
 

@@ -1,5 +1,5 @@
 use Rattle.std.proofs.Common.{◌+◌, ◌-◌, length}
-use Rattle.merkle_delta.specs.Steps.{HaveChecksums}
+use Rattle.merkle_delta.specs.Deltas.{HaveChecksums}
 use Rattle.merkle_delta.proofs.delta.run_len.Given as goal
 
 -- this many are the same

@@ -3,7 +3,7 @@ use Rattle.std.specs.List.{concat}
 use Rattle.std.proofs.lemmas.List.{drop-drop, length-drop}
 use Rattle.std.proofs.lemmas.Result.{err_from_is_err_and}
 use Rattle.merkle_bytes.specs.Counts.{count_bytes}
-use Rattle.merkle_delta.specs.Steps.{IsStepTaken}
+use Rattle.merkle_delta.specs.Deltas.{IsStepTaken}
 use Rattle.merkle_delta.proofs.Stepping.{bytes_taken, malformed_of, no_bytes, no_count, no_passed, no_run, run_taken}
 use Rattle.merkle_delta.proofs.patch.take_step.Goals as goal
 use Rattle.merkle_delta.proofs.patch.take_step.Goals.{then-passed-left-via-then-passed-left, then-passed-left-via-else-passed-left+then-taken-left}

@@ -2,23 +2,23 @@ use Rattle.std.proofs.Common.{subst, sym}
 use Rattle.std.proofs.lemmas.Result.{IfErr-weaker, IfOk-weaker}
 use Rattle.merkle_wire.specs.Faults.{IsUnread, OfMessage}
 use Rattle.merkle_wire.specs.Questions.{AsksNothing}
-use Rattle.merkle_wire.specs.Replies.{EndsWithin, IsAnsweredBy, IsAnsweredWithin, IsReplyBy}
+use Rattle.merkle_wire.specs.Replies.{EndsWithin, IsAnsweredBy, IsAnsweredWithin, IsReply}
 use Rattle.merkle_wire.proofs.OfMessages.{RefusesMessage, RefusesQuestion, of_message_weaker}
 use Rattle.merkle_wire.proofs.answering.answer_by.Goals as goal
 
 pub returns-in-Ok-clause-answered : goal.returns-in-Ok-clause-answered
 returns-in-Ok-clause-answered g c =
-    let by = IsReplyBy g.H.RowHasher.laws g.row.N g.K.Encode.encoding g.V.Encode.encoding in
+    let by = IsReply g.H.RowHasher.laws g.row.N g.K.Encode.encoding g.V.Encode.encoding in
     let question = c.in-Ok.question in
     let before = g.S.KeptSide.contents c.args.side.now c.args.beside.now in
     let hashed = g.S.KeptSide.contents c.hash.new.self c.args.beside.now in
     let after = g.S.KeptSide.contents c.reply_to.new.side c.args.beside.now in
-    IfOk-weaker c.reply_to.result (by hashed.rows hashed.tree question)
+    IfOk-weaker c.reply_to.result (λ reply. by hashed.rows hashed.tree question reply.items)
     (IsAnsweredBy g.H.RowHasher.laws g.row.N g.K.Encode.encoding g.V.Encode.encoding before.rows after.tree c.args.message.now)
     (λ reply is. (
       question,
       c.in-Ok.ensures.asks,
-      subst (λ rows. by rows after.tree question reply) c.hash.ensures.rows (subst (λ side. by hashed.rows side.tree question reply) (sym c.reply_to.ensures.kept) is),
+      subst (λ rows. by rows after.tree question reply.items) c.hash.ensures.rows (subst (λ side. by hashed.rows side.tree question reply.items) (sym c.reply_to.ensures.kept) is),
     )) c.reply_to.ensures.reply
 
 pub returns-in-Ok-clause-within : goal.returns-in-Ok-clause-within

@@ -1,10 +1,11 @@
-use Rattle.std.proofs.Common.{length, ap, subst, sym, ◌∙◌, ◌≤◌}
+use Rattle.std.proofs.Common.{length, ap, subst, sym, ◌∙◌, ◌≤◌, Some}
 use Rattle.std.proofs.lemmas.Result.{IfErr-weaker, IfOk-weaker, err_from_is_err_and}
 use Rattle.merkle_wire.specs.Limits.{Allows}
-use Rattle.merkle_wire.specs.Next.{GoesOn, HasLeft, IsAsked, IsCame, IsEnded, IsTwice, IfAsks}
+use Rattle.merkle_wire.specs.Next.{GoesOn, HasLeft, IsAsked, IsCame, IsEnded, IfAsks}
 use Rattle.merkle_wire.proofs.NextMessages.{asked_goes_on, came_few, came_goes_on, outlines_of_some, twice_ends}
 use Rattle.merkle_wire.proofs.WithinLimits.{asked_allowed, came_within}
 use Rattle.merkle_wire.proofs.catching_up.go_on.Goals as goal
+use Rattle.merkle_wire.specs.Underway.{IsAskedOf}
 
 pub returns-in_ok-rounds-in-Some-clause-goes_on : goal.returns-in_ok-rounds-in-Some-clause-goes_on
 returns-in_ok-rounds-in-Some-clause-goes_on g c =
@@ -16,15 +17,18 @@ returns-in_ok-rounds-in-Some-clause-goes_on g c =
 pub returns-in-None-clause-ended : goal.returns-in-None-clause-ended
 returns-in-None-clause-ended g c =
     let done = rw c.in-None.is at c.in_ok-next_question.ensures in
-    IfErr-weaker c.came.result (IsTwice g.K.Ord.cmp c.into_rows.result.items) (IsEnded g.K.Ord.cmp c.args.rounds c.args.work)
+    IfErr-weaker c.came.result _ (IsEnded g.K.Ord.cmp c.args.rounds c.args.work)
     (λ error twice. twice_ends g.K.Ord.cmp c.args.rounds c.args.work c.next_question.new.self c.into_rows.result.items error done c.into_rows.ensures twice) c.came.ensures.ended
 
 pub returns-in_err-rounds-in-Some-clause-ended : goal.returns-in_err-rounds-in-Some-clause-ended
 returns-in_err-rounds-in-Some-clause-ended g c =
     let p = err_from_is_err_and c.from_residual-in_err-rounds-in-Some.result c.from_residual-in_err-rounds-in-Some.ensures.1 in
-    let many = c.in_err-rounds-in-Some.ensures.many in
-    rw (p.1, p.2) (subst (IsEnded g.K.Ord.cmp c.args.rounds c.args.work) (sym many.0)
-    (many.1, outlines_of_some g.K.Ord.cmp c.in-Some.question c.args.work c.next_question.new.self many.2 (rw c.in-Some.is at c.in_ok-next_question.ensures)))
+    let (is, many, (most, gaps, asks)) = c.in_err-rounds-in-Some.ensures.many in
+    rw (p.1, p.2) (subst (IsEnded g.K.Ord.cmp c.args.rounds c.args.work) (sym is) (
+      many,
+      outlines_of_some g.K.Ord.cmp most gaps c.args.work c.next_question.new.self
+          (subst (λ q. IsAskedOf (Some q) c.args.work c.next_question.new.self) asks (rw c.in-Some.is at c.in_ok-next_question.ensures)),
+    ))
 
 pub returns-in-None-clause-goes_on : goal.returns-in-None-clause-goes_on
 returns-in-None-clause-goes_on g c =

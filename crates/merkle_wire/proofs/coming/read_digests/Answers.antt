@@ -7,7 +7,7 @@ use Rattle.std.specs.Vec.Iter.{into_iter_items}
 use Rattle.key_order.proofs.ListParts.{each-append}
 use Rattle.merkle_replica.proofs.ListIterators.{one_yielded, all_yielded}
 use Rattle.merkle_wire.specs.Outlines.{keys_among}
-use Rattle.merkle_wire.specs.Reads.{nodes_read}
+use Rattle.merkle_wire.specs.Steps.{nodes_read}
 use Rattle.merkle_wire.proofs.Fronts.{refused_unread}
 use Rattle.merkle_wire.proofs.Unfit.{each_digest, flat_digests, no_digests}
 use Rattle.merkle_wire.proofs.coming.read_digests.Goals as goal

@@ -2,7 +2,7 @@ use Rattle.std.proofs.Common.{◌≡◌, ◌++◌, length, map}
 use Rattle.std.specs.List.{AllByRecursion, flat_map}
 use Rattle.std.specs.Vec.Iter.{into_iter_items, into_iter_len}
 use Rattle.merkle_wire.specs.Outlines.{keys_among}
-use Rattle.merkle_wire.specs.Reads.{nodes_read}
+use Rattle.merkle_wire.specs.Steps.{nodes_read}
 use Rattle.merkle_wire.proofs.coming.read_digests.Given as goal
 
 -- the digests at the first keys are read

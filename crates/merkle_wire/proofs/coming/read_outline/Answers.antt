@@ -3,14 +3,14 @@ use Rattle.std.proofs.lemmas.Result.{err_from_is_err_and}
 use Rattle.std.specs.List.{flat_map}
 use Rattle.merkle_bytes.specs.Runs.{bound_key, run_bytes, row_behind, row_key}
 use Rattle.merkle_wire.specs.Outlines.{keys_told, keys_among, pages_bytes, nodes_bytes}
-use Rattle.merkle_wire.specs.Reads.{nodes_read, below_keys, digests_beside}
+use Rattle.merkle_wire.specs.Steps.{nodes_read, below_keys, digests_beside}
 use Rattle.merkle_wire.proofs.Exchanges.{key_tells}
 use Rattle.merkle_wire.proofs.Fronts.{refused_for, refused_unread}
 use Rattle.merkle_wire.proofs.OutlinesRead.{beside_all, kind_and_rest, kind_read}
 use Rattle.merkle_wire.proofs.Unfit.{no_outline, no_outline-none}
 use Rattle.merkle_wire.proofs.coming.read_outline.Goals as goal
 use Rattle.merkle_bytes.specs.Reading.{BeginsWithNo}
-use Rattle.merkle_wire.specs.Fit.{AreNodesIn, NoRows, NoPage}
+use Rattle.merkle_wire.specs.Fit.{AreNodesIn, NoPage, NoRows}
 use Rattle.merkle_wire.specs.Gaps.{owned_gap}
 
 pub returns-then-kind-eq0-clause-read : goal.returns-then-kind-eq0-clause-read

@@ -5,7 +5,7 @@ use Rattle.key_order.specs.Order.{Same}
 use Rattle.merkle_wire.specs.Coming.{AscendIn, IsPageDigest}
 use Rattle.merkle_wire.specs.Gaps.{owned_gap}
 use Rattle.merkle_wire.specs.Outlines.{keys_told, pages_bytes}
-use Rattle.merkle_wire.specs.Reads.{digests_beside}
+use Rattle.merkle_wire.specs.Steps.{digests_beside}
 use Rattle.merkle_wire.proofs.Exchanges.{key_tells}
 use Rattle.merkle_wire.proofs.Fronts.{refused_for, refused_unread}
 use Rattle.merkle_wire.proofs.WrittenKeys.{told_as_keys}

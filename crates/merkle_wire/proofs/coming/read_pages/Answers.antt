@@ -7,7 +7,7 @@ use Rattle.key_order.proofs.ListParts.{each-append}
 use Rattle.merkle_replica.proofs.ListIterators.{one_yielded, all_yielded}
 use Rattle.merkle_wire.specs.Coming.{IsPageDigest}
 use Rattle.merkle_wire.specs.Outlines.{pages_bytes}
-use Rattle.merkle_wire.specs.Reads.{below_keys}
+use Rattle.merkle_wire.specs.Steps.{below_keys}
 use Rattle.merkle_wire.proofs.Fronts.{refused_unread}
 use Rattle.merkle_wire.proofs.NewGaps.{pages_more}
 use Rattle.merkle_wire.proofs.Unfit.{no_pages}

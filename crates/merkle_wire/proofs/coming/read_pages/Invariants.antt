@@ -3,7 +3,7 @@ use Rattle.std.specs.List.{AllByRecursion}
 use Rattle.std.specs.Vec.Iter.{into_iter_items, into_iter_len}
 use Rattle.merkle_wire.specs.Coming.{IsPageDigest}
 use Rattle.merkle_wire.specs.Outlines.{pages_bytes}
-use Rattle.merkle_wire.specs.Reads.{below_keys}
+use Rattle.merkle_wire.specs.Steps.{below_keys}
 use Rattle.merkle_wire.proofs.coming.read_pages.Given as goal
 
 -- the digests of the pages before the first keys are read

@@ -1,4 +1,4 @@
-use Rattle.std.proofs.Common.{◌∷◌, ◌++◌, [], cond, true, false, refl, ap, sym, subst, ◌∙◌, append-nil, inl, inr}
+use Rattle.std.proofs.Common.{◌∷◌, ◌++◌, [], cond, true, false, refl, ap, sym, subst, ◌∙◌, append-nil, inl}
 use Rattle.std.proofs.lemmas.Result.{err_from_is_err_and}
 use Rattle.merkle_bytes.specs.Runs.{bound_key, row_behind, row_key, run_bytes}
 use Rattle.merkle_wire.proofs.Exchanges.{key_tells}
@@ -27,13 +27,13 @@ returns-clause-read g c =
     let last = bound_key g.K.Encode.encoding [] in
     let added = rw c.deref.ensures.value at c.in_ok-add_behind.ensures.added in (
       record { rows = c.in_ok-part.part.items; whole = false },
-      added.2 ∷ [],
+      added.0,
       part_read g.K.Encode.encoding g.V.Encode.encoding (last c.args.gap.now.after) c.in_ok-run.run' c.in_ok-part.part.items c.in_ok-flag.field-0 false
           c.args.reader.now.left.now c.read_rows.new.reader.left.now c.flag.new.self.left.now
           c.in_ok-part.ensures.read c.in_ok-flag.ensures.read (c.in_ok-run.ensures ∙ ap last c.as_ref.ensures.value) c.if-branch.false,
       c.in_ok-part.ensures.lie,
-      inr (added.0, added.1, added.2, refl, added.3, added.4, refl),
-      added.5,
+      added.1,
+      added.2,
       c.in_ok-append-2.ensures.items,
     )
 

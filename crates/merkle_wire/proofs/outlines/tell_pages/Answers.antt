@@ -1,7 +1,7 @@
 use Rattle.std.proofs.Common.{refl, subst, ◌∙◌}
 use Rattle.merkle_wire.specs.Messages.{front}
-use Rattle.merkle_wire.specs.Replies.{IsNotFull, IsFull}
-use Rattle.merkle_wire.specs.Told.{TellsPage}
+use Rattle.merkle_wire.specs.Replies.{IsFull}
+use Rattle.merkle_wire.specs.Steps.{TellsPage}
 use Rattle.merkle_wire.proofs.Continued.{continued_more, continued_all, continued_full, telling_answers}
 use Rattle.merkle_wire.proofs.outlines.tell_pages.Goals as goal
 
@@ -16,7 +16,7 @@ gaps-preserved g c =
     record {
       kept = c.tell_page.ensures.kept ∙ so.kept;
       told = continued_more _ _ _ _ c.args.gaps.now (front c.args.kind) c.gaps.bytes.items c.tell_page.new.bytes.items c.gaps.gap-index c.gap-item.result told.0 c.gaps-test.true c.gap-item.is so.told
-          told.1 (subst (λ b. IsNotFull c.args.most_bytes b) c.deref.ensures.value (c.if-is_full.ensures.room refl)) told.2;
+          told.1 (subst (λ b. ¬ IsFull c.args.most_bytes b) c.deref.ensures.value (c.if-is_full.ensures.room refl), tt) told.2;
     }
 
 pub returns-then-is_full-clause-told : goal.returns-then-is_full-clause-told

@@ -12,7 +12,7 @@ use Rattle.merkle_wire.specs.Fit.{IsOutlineIn}
 use Rattle.merkle_wire.specs.Gaps.{owned_gap}
 use Rattle.merkle_wire.specs.Messages.{front}
 use Rattle.merkle_wire.specs.Outlines.{Outline, outline_bytes}
-use Rattle.merkle_wire.specs.Reads.{outline_read, outlines_read}
+use Rattle.merkle_wire.specs.Steps.{as_told, outlines_read}
 use Rattle.merkle_wire.specs.declared.gaps.OwnedGap.{OwnedGap}
 use Rattle.merkle_wire.proofs.Exchanges.{key_tells}
 use Rattle.merkle_wire.proofs.Fitting.{fits_lie}
@@ -69,7 +69,7 @@ gaps-preserved g c =
     let gap = c.in-Some.gap in
     let kept = c.gaps.invariant in
     let came = c.in_ok-outline in
-    let one : OwnedGap g.row.K.Denot × Outline g.row.K.Denot g.row.V.Denot = (gap, outline_read came.outline) in
+    let one : OwnedGap g.row.K.Denot × Outline g.row.K.Denot g.row.V.Denot = (gap, as_told came.outline) in
     let old = outlines_read c.gaps.told.items in
     let more : outlines_read c.push-else-is_empty.new.self.items ≡ old ++ one ∷ [] = ap outlines_read c.in_ok-push-2.ensures.items ∙ map-append _ c.gaps.told.items ((gap, came.outline) ∷ []) in
     let bytes = flat_map (outline_over_bytes g.K.Encode.encoding g.V.Encode.encoding) in
@@ -95,11 +95,13 @@ returns-clause-read g c =
     let bytes = flat_map (outline_over_bytes g.K.Encode.encoding g.V.Encode.encoding) in
     let done = all_yielded c.gaps.yielded (into_iter_items c.gaps.gap-iterator) c.args.gaps.items kept.left (sym kept.count ∙ c.in-None.ensures.steps.0) in
     let all = kept.read ∙ ap (λ t. front c.args.kind ++ (bytes told ++ t)) c.in_ok-end.ensures.ended ∙ ap (λ t. front c.args.kind ++ t) (append-nil (bytes told)) in (
+      told,
       all,
       λ e. c.in_ok-reader.ensures.some (let same : front c.args.kind ++ c.in_ok-reader.reader.left.now ≡ front c.args.kind ++ [] = sym c.in_ok-reader.ensures.read ∙ all
           ∙ ap (λ t. front c.args.kind ++ bytes t) e in cc),
       sym done ∙ kept.of,
       kept.each,
+      refl,
     )
 
 pub returns-in_err-reader-clause-refused : goal.returns-in_err-reader-clause-refused
@@ -126,7 +128,7 @@ returns-in_err-outline-clause-refused g c =
     let firsts = kept.of ∙ ap (λ l. map (λ t. t.0) told ++ l) none ∙ append-nil (map (λ t. t.0) told) in
     rw (p.1, p.2) (refused_for _ _ c.in_err-outline.field-0.0 (λ no_outline.
     says_nothing (λ gap told. IsOutlineIn g.K.Ord.cmp g.K.Decode.is_value g.V.Decode.is_value c.args.digest_bytes c.args.with_pages (owned_gap gap) told) c.args.kind gaps c.args.reply.now
-    bytes (bytes told ++ left) kept.read
+    (told_bytes g) (bytes told ++ left) kept.read
     (none_next (told_bytes g) (λ t. Fits c.args.digest_bytes t.1) (λ t. IsOutlineIn g.K.Ord.cmp g.K.Decode.is_value g.V.Decode.is_value c.args.digest_bytes c.args.with_pages (owned_gap t.0) t.1)
     (some_told g)
     (λ gap y z r s. outlines_end g.K.Ord.cmp g.V.PartialEq.eq g.K.Encode.encoding g.V.Encode.encoding
@@ -149,7 +151,7 @@ returns-in_err-end-clause-refused g c =
     let none : c.gaps.left.items ≡ [] = none_before c.gaps.left.items left kept.once more in
     let firsts = kept.of ∙ ap (λ l. map (λ t. t.0) told ++ l) none ∙ append-nil (map (λ t. t.0) told) in
     says_nothing (λ gap told. IsOutlineIn g.K.Ord.cmp g.K.Decode.is_value g.V.Decode.is_value c.args.digest_bytes c.args.with_pages (owned_gap gap) told) c.args.kind gaps c.args.reply.now
-    bytes (bytes told ++ left) kept.read
+    (told_bytes g) (bytes told ++ left) kept.read
     (none_left (told_bytes g) (λ t. Fits c.args.digest_bytes t.1) (λ t. IsOutlineIn g.K.Ord.cmp g.K.Decode.is_value g.V.Decode.is_value c.args.digest_bytes c.args.with_pages (owned_gap t.0) t.1)
     (some_told g)
     (λ gap y z r s. outlines_end g.K.Ord.cmp g.V.PartialEq.eq g.K.Encode.encoding g.V.Encode.encoding

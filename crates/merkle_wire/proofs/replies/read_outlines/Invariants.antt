@@ -4,7 +4,7 @@ use Rattle.std.specs.Vec.Iter.{into_iter_items, into_iter_len}
 use Rattle.merkle_wire.specs.Coming.{LiesIn}
 use Rattle.merkle_wire.specs.Gaps.{owned_gap}
 use Rattle.merkle_wire.specs.Messages.{front}
-use Rattle.merkle_wire.specs.Reads.{outlines_read}
+use Rattle.merkle_wire.specs.Steps.{outlines_read}
 use Rattle.merkle_wire.proofs.replies.read_outlines.Given as goal
 use Rattle.merkle_wire.specs.Replies.{outline_over_bytes}
 use Rattle.std.specs.Prelude.{flat_map}

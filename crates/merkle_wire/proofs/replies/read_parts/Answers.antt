@@ -23,16 +23,20 @@ returns-clause-read g c =
     let came = rw c.deref.ensures.value at c.in_ok-count.ensures.read.1 in
     let told = came.0 in
     let all : c.in_ok-reader.reader.left.now ≡ bytes told = came.3 ∙ ap (λ t. bytes told ++ t) c.in_ok-end.ensures.ended ∙ append-nil (bytes told) in (
-      told,
       came.1,
       c.in_ok-rest.rest.items,
-      c.in_ok-reader.ensures.read ∙ ap (λ t. front rows_in_kind ++ t) all,
-      λ e. c.in_ok-reader.ensures.some (all ∙ ap bytes e),
-      told_and_left told c.args.gaps.items c.in_ok-rest.rest.items c.in_ok-count.count came.2 c.in_ok-rest.ensures.tail,
-      came.4,
-      came.5,
       c.in_ok-append.ensures.items ∙ ap (λ t. t ++ c.in_ok-rest.rest.items) (came.6 ∙ ap (λ t. t ++ came.1) c.new-left.ensures.items),
-      came.7 ∙ ap (λ rs. rs ++ flat_map (λ t. t.1.rows) told) c.new-rows.ensures.items,
+      (
+        told,
+        c.in_ok-reader.ensures.read ∙ ap (λ t. front rows_in_kind ++ t) all,
+        λ e. c.in_ok-reader.ensures.some (all ∙ ap bytes e),
+        told_and_left told c.args.gaps.items c.in_ok-rest.rest.items c.in_ok-count.count came.2 c.in_ok-rest.ensures.tail,
+        came.4,
+        (
+          came.5,
+          came.7 ∙ ap (λ rs. rs ++ flat_map (λ t. t.1.rows) told) c.new-rows.ensures.items,
+        ),
+      ),
     )
 
 pub returns-in_err-reader-clause-refused : goal.returns-in_err-reader-clause-refused
@@ -56,7 +60,7 @@ returns-in_err-end-clause-refused g c =
     let more = c.in_err-end.ensures.malformed malformed in
     let all = rw c.deref.ensures.value at (c.in_ok-count.ensures.all more) in
     says_nothing (λ gap told. IsPartIn g.K.Ord.cmp g.K.Decode.is_value g.V.Decode.is_value (owned_gap gap) told) rows_in_kind gaps c.args.reply.now
-    (flat_map (part_in_bytes g.K.Encode.encoding g.V.Encode.encoding)) c.in_ok-reader.reader.left.now c.in_ok-reader.ensures.read
+    (part_in_bytes g.K.Encode.encoding g.V.Encode.encoding) c.in_ok-reader.reader.left.now c.in_ok-reader.ensures.read
     (none_left (λ t. part_bytes g.K.Encode.encoding g.V.Encode.encoding (bound_key g.K.Encode.encoding [] t.0.after) t.1)
     (λ t. AscendIn g.K.Ord.cmp (owned_gap t.0) (map (λ r. r.0) t.1.rows)) (λ t. IsPartIn g.K.Ord.cmp g.K.Decode.is_value g.V.Decode.is_value (owned_gap t.0) t.1)
     (λ t. part_some g.K.Ord.cmp g.V.PartialEq.eq g.K.Encode.encoding g.V.Encode.encoding

@@ -1,7 +1,7 @@
 use Rattle.std.proofs.Common.{Some, None, refl, sym, subst, ◌∙◌}
 use Rattle.std.proofs.lemmas.Result.{err_from_is_err_and}
 use Rattle.merkle_wire.specs.Fit.{IsFit}
-use Rattle.merkle_wire.specs.Reads.{IsReplyRead}
+use Rattle.merkle_wire.specs.Steps.{IsReplyRead}
 use Rattle.merkle_wire.specs.declared.question.Question.TheVariants.{Outlines, Nodes, RowsAt, RowsIn}
 use Rattle.merkle_wire.specs.declared.replies.Reply.TheVariants as came
 use Rattle.merkle_wire.proofs.Fronts.{refused_for}

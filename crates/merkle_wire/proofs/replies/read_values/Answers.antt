@@ -86,6 +86,7 @@ returns-clause-read g c =
       λ e. c.in_ok-reader.ensures.some (let same : front rows_at_kind ++ c.in_ok-reader.reader.left.now ≡ front rows_at_kind ++ [] = sym c.in_ok-reader.ensures.read ∙ all
           ∙ ap (λ t. front rows_at_kind ++ bytes t) e in cc),
       sym done ∙ kept.of,
+      all_told kept.told,
       kept.rows,
     )
 
@@ -110,7 +111,7 @@ returns-in_err-read_value-clause-refused g c =
     let firsts = kept.of ∙ ap (λ l. map (λ t. t.0) kept.told ++ l) none ∙ append-nil (map (λ t. t.0) kept.told) in
     rw (p.1, p.2) (refused_for _ _ c.in_err-read_value.field-0.0 (λ no_value.
     says_nothing (λ wanted value. IsOption g.V.Decode.is_value value) rows_at_kind keys c.args.reply.now
-    (flat_map (value_at_bytes g.V.Encode.encoding)) (flat_map (value_at_bytes g.V.Encode.encoding) kept.told ++ left) kept.read
+    (value_at_bytes g.V.Encode.encoding) (flat_map (value_at_bytes g.V.Encode.encoding) kept.told ++ left) kept.read
     (none_next (λ t. option_bytes g.V.Encode.encoding t.1) (λ t. ⊤) (λ t. IsOption g.V.Decode.is_value t.1)
     (some_told g) (same_behind g)
     kept.told keys (flat_map (value_at_bytes g.V.Encode.encoding) kept.told ++ left) left (all_told kept.told) refl more
@@ -128,7 +129,7 @@ returns-in_err-end-clause-refused g c =
     let none : c.keys.left.items ≡ [] = none_before c.keys.left.items left kept.once more in
     let firsts = kept.of ∙ ap (λ l. map (λ t. t.0) kept.told ++ l) none ∙ append-nil (map (λ t. t.0) kept.told) in
     says_nothing (λ wanted value. IsOption g.V.Decode.is_value value) rows_at_kind keys c.args.reply.now
-    (flat_map (value_at_bytes g.V.Encode.encoding)) (flat_map (value_at_bytes g.V.Encode.encoding) kept.told ++ left) kept.read
+    (value_at_bytes g.V.Encode.encoding) (flat_map (value_at_bytes g.V.Encode.encoding) kept.told ++ left) kept.read
     (none_left (λ t. option_bytes g.V.Encode.encoding t.1) (λ t. ⊤) (λ t. IsOption g.V.Decode.is_value t.1)
     (some_told g) (same_behind g)
     kept.told keys (flat_map (value_at_bytes g.V.Encode.encoding) kept.told ++ left) left (all_told kept.told) refl more (sym firsts ∙ done))))

@@ -1,7 +1,7 @@
 use Rattle.std.proofs.Common.{refl, subst, ◌∙◌}
 use Rattle.key_order.specs.Map.{get}
 use Rattle.merkle_wire.specs.Messages.{front}
-use Rattle.merkle_wire.specs.Replies.{IsNotFull, IsFull}
+use Rattle.merkle_wire.specs.Replies.{IsFull}
 use Rattle.merkle_wire.specs.declared.message.Kind.TheVariants.{RowsAt}
 use Rattle.merkle_wire.proofs.Continued.{continued_more, continued_all, continued_full, telling_answers}
 use Rattle.merkle_wire.proofs.rows_at.tell_values.Goals as goal
@@ -20,7 +20,7 @@ keys-preserved g c =
       kept = c.tell_value.ensures.kept ∙ so.kept;
       told = continued_more _ _ _ _ c.args.keys.now (front RowsAt) c.keys.bytes.items c.tell_value.new.bytes.items c.keys.wanted-index c.wanted-item.result
           (get g.K.Ord.cmp (g.S.KeptSide.contents c.args.side.now c.args.beside.now).rows c.wanted-item.result.key) c.keys-test.true c.wanted-item.is so.told refl
-          (subst (λ b. IsNotFull c.args.most_bytes b) c.deref.ensures.value (c.if-is_full.ensures.room refl)) told;
+          (subst (λ b. ¬ IsFull c.args.most_bytes b) c.deref.ensures.value (c.if-is_full.ensures.room refl), tt) told;
     }
 
 pub returns-then-is_full-clause-told : goal.returns-then-is_full-clause-told

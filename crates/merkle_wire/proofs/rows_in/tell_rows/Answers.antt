@@ -1,7 +1,7 @@
 use Rattle.std.proofs.Common.{refl, subst, ◌∙◌}
 use Rattle.merkle_wire.specs.Messages.{front}
-use Rattle.merkle_wire.specs.Replies.{IsNotFull, IsFull}
-use Rattle.merkle_wire.specs.Told.{TellsPart}
+use Rattle.merkle_wire.specs.Replies.{IsFull}
+use Rattle.merkle_wire.specs.Steps.{TellsPart}
 use Rattle.merkle_wire.specs.declared.message.Kind.TheVariants.{RowsIn}
 use Rattle.merkle_wire.proofs.Continued.{continued_more, continued_all, continued_full, telling_answers}
 use Rattle.merkle_wire.proofs.rows_in.tell_rows.Goals as goal
@@ -17,7 +17,7 @@ gaps-preserved g c =
     record {
       kept = c.add_part.ensures.kept ∙ so.kept;
       told = continued_more _ _ _ _ c.args.gaps.now (front RowsIn) c.gaps.bytes.items c.add_part.new.bytes.items c.gaps.gap-index c.gap-item.result told.0 c.gaps-test.true c.gap-item.is so.told told.1
-          (subst (λ b. IsNotFull c.args.most_bytes b) c.deref.ensures.value (c.if-is_full.ensures.room refl), told.3) told.2;
+          (subst (λ b. ¬ IsFull c.args.most_bytes b) c.deref.ensures.value (c.if-is_full.ensures.room refl), told.3) told.2;
     }
 
 pub returns-then-is_full-clause-told : goal.returns-then-is_full-clause-told

@@ -1,6 +1,6 @@
 use Rattle.std.proofs.Common.{◌≡◌}
 use Rattle.merkle_wire.specs.Messages.{front}
-use Rattle.merkle_wire.specs.Replies.{IsNotFull, IsPartOf, RowsFit, part_in_bytes}
+use Rattle.merkle_wire.specs.Replies.{IsPartOf, RowsFit, part_in_bytes}
 use Rattle.merkle_wire.specs.declared.message.Kind.TheVariants.{RowsIn}
 use Rattle.merkle_wire.proofs.Continued.{IsContinued}
 use Rattle.merkle_wire.proofs.rows_in.tell_rows.Given as goal
@@ -10,5 +10,5 @@ abbrev pub invariant-gaps : goal.invariant-gaps
 invariant-gaps g l = record {
   kept : g.S.KeptSide.contents l.side l.beside ≡ g.S.KeptSide.contents l.fn.side l.beside;
   told : IsContinued (IsPartOf g.K.Ord.cmp (g.S.KeptSide.contents l.fn.side l.beside).rows) (part_in_bytes g.K.Encode.encoding g.V.Encode.encoding)
-      (λ before t. IsNotFull l.most_bytes before × RowsFit g.K.Encode.encoding g.V.Encode.encoding l.most_bytes before t) l.most_bytes l.gaps (front RowsIn) l.gap-index l.bytes.items;
+      (RowsFit g.K.Encode.encoding g.V.Encode.encoding l.most_bytes) l.most_bytes l.gaps (front RowsIn) l.gap-index l.bytes.items;
 }

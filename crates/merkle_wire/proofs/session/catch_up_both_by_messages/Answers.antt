@@ -10,13 +10,15 @@ use Rattle.merkle_wire.proofs.session.catch_up_both_by_messages.Goals as goal
 pub returns-in-Ok-catch_up_by_messages-clause-joined : goal.returns-in-Ok-catch_up_by_messages-clause-joined
 returns-in-Ok-catch_up_by_messages-clause-joined g c = rw g.met.H.RowHasher.laws_are (
     let laws = laws_of g.K.Ord.cmp g.K.KeyBytes.bytes_of g.H.Hasher-1.digest_of g.V.PartialEq.eq g.V.Join.join_of g.H.Hasher-2.digest_of in
+    subst (HasJoined laws (side c.args.a.now) (side c.args.b.now) c.in-Ok.first) (sym c.catch_up_by_messages-2.ensures.peer_rows) (rw g.met.H.RowHasher.laws_are at c.in-Ok.ensures.joined))
+
+pub returns-in-Ok-catch_up_by_messages-clause-joined_back : goal.returns-in-Ok-catch_up_by_messages-clause-joined_back
+returns-in-Ok-catch_up_by_messages-clause-joined_back g c = rw g.met.H.RowHasher.laws_are (
+    let laws = laws_of g.K.Ord.cmp g.K.KeyBytes.bytes_of g.H.Hasher-1.digest_of g.V.PartialEq.eq g.V.Join.join_of g.H.Hasher-2.digest_of in
     let first = c.catch_up_by_messages in
     let second = c.catch_up_by_messages-2 in
-    let stays = second.ensures.peer_rows in (
-      subst (HasJoined laws (side c.args.a.now) (side c.args.b.now) c.in-Ok.first) (sym stays) (rw g.met.H.RowHasher.laws_are at c.in-Ok.ensures.joined),
-      second_sides c.args.a.now first.new.replica second.new.peer c.args.b.now first.new.peer first.ensures.peer_rows first.ensures.peer_settings first.ensures.settings stays
-          (λ s t. HasJoined laws s t c.in-Ok-catch_up_by_messages.second second.new.replica.rows) (rw g.met.H.RowHasher.laws_are at c.in-Ok-catch_up_by_messages.ensures.joined),
-    ))
+    second_sides c.args.a.now first.new.replica second.new.peer c.args.b.now first.new.peer first.ensures.peer_rows first.ensures.peer_settings first.ensures.settings second.ensures.peer_rows
+    (λ s t. HasJoined laws s t c.in-Ok-catch_up_by_messages.second second.new.replica.rows) (rw g.met.H.RowHasher.laws_are at c.in-Ok-catch_up_by_messages.ensures.joined))
 
 pub returns-in-Ok-catch_up_by_messages-clause-join : goal.returns-in-Ok-catch_up_by_messages-clause-join
 returns-in-Ok-catch_up_by_messages-clause-join g c = rw g.met.H.RowHasher.laws_are (λ faith then.

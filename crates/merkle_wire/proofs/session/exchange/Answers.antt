@@ -24,11 +24,9 @@ of_reply g c = rw g.met.H.RowHasher.laws_are (
     let canonical = subst (λ t. IsCanonicalRoot (λ k. level_of (laws.key_digest t.hasher k) t.base) t.root) c.tree.ensures.tree c.every_tree_is_sound.ensures.sound.canonical in
     subst (IsPeerReply laws g.row.N g.K.Encode.encoding g.V.Encode.encoding (side c.args.replica.now) (side met) c.args.session) (sym c.deref-2.ensures.value)
     (record {
-      message = c.args.message.items;
       question = question;
       tree = peer.tree;
-      asks = c.requires.asks;
-      reads = sym c.deref.ensures.value ∙ read;
+      reads = sym c.requires.asks ∙ sym c.deref.ensures.value ∙ read;
       settings = settings;
       of_peer = subst (λ s. IsTreeOf laws.cmp (laws.key_digest s.hasher) s.base peer.tree.root (tree_map laws s)) (same_side met peer c.answer.ensures.rows settings)
           (canonical, c.tree.ensures.digests);

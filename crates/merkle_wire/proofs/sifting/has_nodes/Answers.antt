@@ -11,7 +11,7 @@ use Rattle.merkle_replica.proofs.Descents.{same_get}
 use Rattle.merkle_replica.proofs.SideLaws.{laws_of}
 use Rattle.merkle_wire.specs.ItsRows.{side_of}
 use Rattle.merkle_wire.specs.Outlines.{digest_of_all}
-use Rattle.merkle_wire.specs.Reads.{below_keys}
+use Rattle.merkle_wire.specs.Steps.{below_keys}
 use Rattle.merkle_wire.proofs.ItemsMore.{map_more}
 use Rattle.merkle_wire.proofs.sifting.has_nodes.Goals as goal
 

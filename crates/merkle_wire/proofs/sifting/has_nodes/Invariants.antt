@@ -3,7 +3,7 @@ use Rattle.std.specs.List.{flat_map}
 use Rattle.key_order.specs.Map.{get}
 use Rattle.merkle_digest.specs.SipHash.{zero_key}
 use Rattle.merkle_digest.specs.Sip24.{Holds}
-use Rattle.merkle_wire.specs.Reads.{below_keys}
+use Rattle.merkle_wire.specs.Steps.{below_keys}
 use Rattle.merkle_wire.proofs.sifting.has_nodes.Given as goal
 
 -- the keys of the first nodes are there, and their digests are written

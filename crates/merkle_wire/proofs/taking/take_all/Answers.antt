@@ -2,9 +2,9 @@ use Rattle.std.proofs.Common.{◌≡◌, ◌++◌, ◌∷◌, [], append-nil, re
 use Rattle.std.specs.Vec.Iter.{into_iter_items}
 use Rattle.merkle_replica.proofs.ListIterators.{one_yielded, all_yielded}
 use Rattle.merkle_wire.specs.ItsRows.{ForRowsOf, side_of}
-use Rattle.merkle_wire.specs.Taking.{has_row, new_rows}
 use Rattle.merkle_wire.proofs.TakenMore.{rows-more}
 use Rattle.merkle_wire.proofs.taking.take_all.Goals as goal
+use Rattle.merkle_wire.proofs.Lacking.{has_row, new_rows}
 
 pub rows-init : goal.rows-init
 rows-init g c = record {

@@ -3,7 +3,7 @@ use Rattle.std.proofs.lemmas.List.{map-append}
 use Rattle.std.specs.Vec.Iter.{into_iter_items}
 use Rattle.merkle_replica.proofs.ListIterators.{one_yielded, all_yielded}
 use Rattle.merkle_wire.specs.ItsRows.{ForRowsOf, side_of}
-use Rattle.merkle_wire.specs.Reads.{nodes_read}
+use Rattle.merkle_wire.specs.Steps.{nodes_read}
 use Rattle.merkle_wire.specs.Taking.{has_digest, new_keys}
 use Rattle.merkle_wire.proofs.TakenMore.{keys-more, new_key}
 use Rattle.merkle_wire.proofs.taking.take_nodes.Goals as goal

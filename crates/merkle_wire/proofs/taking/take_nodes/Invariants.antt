@@ -1,7 +1,7 @@
 use Rattle.std.proofs.Common.{◌≡◌, ◌++◌, length}
 use Rattle.std.specs.Vec.Iter.{into_iter_items, into_iter_len}
 use Rattle.merkle_wire.specs.ItsRows.{ForRowsOf}
-use Rattle.merkle_wire.specs.Reads.{nodes_read}
+use Rattle.merkle_wire.specs.Steps.{nodes_read}
 use Rattle.merkle_wire.specs.Taking.{new_keys}
 use Rattle.merkle_wire.proofs.taking.take_nodes.Given as goal
 

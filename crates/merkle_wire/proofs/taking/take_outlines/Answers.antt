@@ -5,7 +5,7 @@ use Rattle.merkle_replica.proofs.ListIterators.{one_yielded, all_yielded}
 use Rattle.merkle_wire.specs.Gaps.{owned_gap}
 use Rattle.merkle_wire.specs.ItsRows.{ForRowsOf, side_of}
 use Rattle.merkle_wire.specs.Outlines.{Outline}
-use Rattle.merkle_wire.specs.Reads.{outline_read, outlines_read}
+use Rattle.merkle_wire.specs.Steps.{as_told, outlines_read}
 use Rattle.merkle_wire.specs.Taking.{AreTaken, IsPageTaken}
 use Rattle.merkle_wire.specs.declared.gaps.OwnedGap.{OwnedGap}
 use Rattle.merkle_wire.proofs.TakenMore.{taken-more}
@@ -18,7 +18,7 @@ pub told-preserved : goal.told-preserved
 told-preserved g c =
     let laws = g.H.RowHasher.laws in
     let read = c.in-Some.outline in
-    let one : OwnedGap g.row.K.Denot × Outline g.row.K.Denot g.row.V.Denot = (read.0, outline_read read.1) in
+    let one : OwnedGap g.row.K.Denot × Outline g.row.K.Denot g.row.V.Denot = (read.0, as_told read.1) in
     let kept = c.told.invariant in
     let own = (g.T.KeptTree.kept c.args.tree.now).digests in
     let given = one_yielded c.told.outline-iterator c.next.new.self c.told.yielded c.args.told.items read c.in-Some.ensures.steps kept.left kept.count in
@@ -35,7 +35,7 @@ pub told-preserved-in_ok-take_outline : goal.told-preserved-in_ok-take_outline
 told-preserved-in_ok-take_outline g c =
     let laws = g.H.RowHasher.laws in
     let read = c.in-Some.outline in
-    let one : OwnedGap g.row.K.Denot × Outline g.row.K.Denot g.row.V.Denot = (read.0, outline_read read.1) in
+    let one : OwnedGap g.row.K.Denot × Outline g.row.K.Denot g.row.V.Denot = (read.0, as_told read.1) in
     let kept = c.told.invariant in
     let own = (g.T.KeptTree.kept c.args.tree.now).digests in
     let given = one_yielded c.told.outline-iterator c.next.new.self c.told.yielded c.args.told.items read c.in-Some.ensures.steps kept.left kept.count in

@@ -1,7 +1,7 @@
 use Rattle.std.proofs.Common.{◌≡◌, ◌++◌, length}
 use Rattle.std.specs.Vec.Iter.{into_iter_items, into_iter_len}
 use Rattle.merkle_wire.specs.ItsRows.{ForRowsOf}
-use Rattle.merkle_wire.specs.Reads.{outlines_read}
+use Rattle.merkle_wire.specs.Steps.{outlines_read}
 use Rattle.merkle_wire.specs.Taking.{AreTaken}
 use Rattle.merkle_wire.proofs.taking.take_outlines.Given as goal
 

@@ -1,15 +1,16 @@
 use Rattle.std.proofs.Common.{◌≡◌, ◌++◌, ◌∷◌, [], List, refl, sym, subst, ◌∙◌, append-nil, inl, inr}
 use Rattle.merkle_tree_theory.specs.Gap.{Gap}
-use Rattle.merkle_wire.specs.Found.{Found}
+use Rattle.merkle_wire.specs.Underway.{Found}
 use Rattle.merkle_wire.specs.Gaps.{owned_gap}
 use Rattle.merkle_wire.specs.ItsRows.{ForRowsOf}
-use Rattle.merkle_wire.specs.Taking.{AreNewNodes, HasNodes, IsPageTaken}
+use Rattle.merkle_wire.specs.Taking.{HasNodes, IsPageTaken}
 use Rattle.merkle_wire.proofs.TakenMore.{page_taken}
 use Rattle.merkle_wire.proofs.taking.take_page.Given.{Over}
 use Rattle.merkle_wire.proofs.taking.take_page.Goals as goal
 use Rattle.merkle_wire.proofs.taking.take_page.Goals.{In_ok-take_pages}
-use Rattle.merkle_wire.specs.Reads.{below_keys, digests_beside}
+use Rattle.merkle_wire.specs.Steps.{below_keys, digests_beside}
 use Rattle.merkle_wire.specs.Outlines.{page_told}
+use Rattle.merkle_wire.proofs.TakenGaps.{AreNewNodes}
 
 -- the page is taken once its nodes are noted or added
 taken : (g : Over) (c : In_ok-take_pages g) (nodes : List (Gap g.row.K.Denot)) (after : Found g.row.K.Denot g.row.V.Denot)

@@ -5,7 +5,8 @@ use Rattle.merkle_wire.specs.Gaps.{owned_gap}
 use Rattle.merkle_wire.specs.ItsRows.{ForRowsOf, side_of}
 use Rattle.merkle_wire.proofs.NewGaps.{AreGapsSoFar, gaps_none, gaps_more_of, gaps_end}
 use Rattle.merkle_wire.proofs.taking.take_pages.Goals as goal
-use Rattle.merkle_wire.specs.Reads.{AddsBelow}
+use Rattle.merkle_wire.specs.Steps.{AddsGaps}
+use Rattle.merkle_wire.specs.Taking.{IsNewGap}
 
 pub nodes-init : goal.nodes-init
 nodes-init g c =
@@ -26,7 +27,7 @@ nodes-preserved g c =
     let i = c.nodes.node-index in
     let node = c.node-item.result in
     let added = subst (λ t. ForRowsOf laws t.digests
-    (λ local. AddsBelow laws local (record { after = bound_of c.nodes.after; before = Some node.1.key }) node.0 c.nodes.work c.take_below.new.work))
+    (λ local. AddsGaps (IsNewGap laws local (record { after = bound_of c.nodes.after; before = Some node.1.key }) node.0) c.nodes.work c.take_below.new.work))
     kept.kept c.in_ok-take_below.ensures.added in
     record {
       kept = c.take_below.ensures.kept ∙ kept.kept;
@@ -44,7 +45,7 @@ returns-clause-added g c = λ rows of.
     let below = c.args.below.now in
     let last = c.args.last.now in
     let added = subst (λ t. ForRowsOf laws t.digests
-    (λ local. AddsBelow laws local (record { after = bound_of c.nodes.after; before = c.args.gap.now.before }) last c.nodes.work c.take_below-2.new.work)) c.nodes.invariant.kept
+    (λ local. AddsGaps (IsNewGap laws local (record { after = bound_of c.nodes.after; before = c.args.gap.now.before }) last) c.nodes.work c.take_below-2.new.work)) c.nodes.invariant.kept
     (rw c.as_ref.ensures.value at c.in_ok-take_below-2.ensures.added) in
     gaps_end laws local gap (bound_of c.nodes.after) below last c.args.work.now c.nodes.work c.take_below-2.new.work
     (subst (λ bs. AreGapsSoFar laws local gap (bound_of c.nodes.after) bs c.args.work.now c.nodes.work) (take_all c.nodes.node-index below c.nodes-test.false)

@@ -1,6 +1,5 @@
 use Rattle.std.proofs.Common.{rules, ◌≡◌, ◌<◌, ◌≤◌, ◌++◌, ◌∷◌, [], length, sym, ap, ◌∙◌}
-use Rattle.merkle_delta.specs.Chunks.{chunks_at}
-use Rattle.merkle_delta.proofs.Cutting.{IsCut, cut_ends, cut_goes_on, cut_last, cut_all}
+use Rattle.merkle_delta.proofs.Cutting.{IsCut, cut_ends, cut_goes_on, cut_last, cut_all, chunks_at}
 use Rattle.merkle_delta.proofs.chunks.Chunks.cut.Goals as goal
 use Rattle.merkle_delta.proofs.chunks.Chunks.cut.Goals.{then-ends_chunk+in_ok-push, else-ends_chunk, then-start-len+in_ok-push-2, else-start-len}
 

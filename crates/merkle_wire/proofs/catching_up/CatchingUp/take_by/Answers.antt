@@ -3,7 +3,8 @@ use Rattle.std.proofs.lemmas.Result.{err_from_is_err_and}
 use Rattle.merkle_replica.proofs.SideLaws.{laws_of}
 use Rattle.merkle_replica.specs.Laws.{Laws}
 use Rattle.merkle_wire.specs.ItsRows.{ForRowsOf, side_of}
-use Rattle.merkle_wire.specs.Underway.{HasTakenReply, Underway}
+use Rattle.merkle_wire.specs.Taking.{HasTakenReply}
+use Rattle.merkle_wire.specs.Underway.{Underway}
 use Rattle.merkle_wire.proofs.AskedFor.{only_asked}
 use Rattle.merkle_wire.proofs.NextMessages.{is_next, is_stopped, refused_stops}
 use Rattle.merkle_wire.proofs.Takings.{has_taken}
@@ -66,7 +67,7 @@ returns-in_err-check_rows-clause-ended g c = rw g.met.H.RowHasher.laws_are (
     over_stops (laws_at g) g.row.N g.K.Encode.encoding g.V.Encode.encoding g.K.Decode.is_value g.V.Decode.is_value local local c.args.self inside c.args.reply.now
     c.take_reply.new.work c.in_ok-came.again c.in_ok-left.left
     c.row_count.result c.in_err-check_rows.field-0.0 refl c.self.view_is (taken g (goal.at.returns-in_err-check_rows-clause-ended g c).In-Ok rows of)
-    c.in_ok-left.ensures.left.rows c.row_count.ensures c.in_err-check_rows.ensures.over))
+    c.in_ok-left.ensures.left.2 c.row_count.ensures c.in_err-check_rows.ensures.over))
 
 pub returns-in_err-go_on-in-None-clause-ended : goal.returns-in_err-go_on-in-None-clause-ended
 returns-in_err-go_on-in-None-clause-ended g c = rw g.met.H.RowHasher.laws_are (

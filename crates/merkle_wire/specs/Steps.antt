@@ -1,0 +1,132 @@
+-- What is written and read of a reply, step by step.
+use Rattle.std.specs.Prelude.{◌≡◌, ℕ, ◌+◌, List, [], ◌++◌, length, Bool, true, false, None, Some, ◌⊎◌, ◌≤◌, ◌∷◌, map, flat_map, take, Option}
+use denote.Ref.{Bor}
+use Rattle.std.specs.Global.{Vec}
+use Rattle.std.specs.declared.cmp.Ordering.{Ordering}
+use Rattle.key_order.specs.Map.{get}
+use Rattle.merkle_bytes.specs.Encodings.{AddsBytes}
+use Rattle.merkle_bytes.specs.Runs.{bound_key, row_behind}
+use Rattle.merkle_replica.specs.Contents.{Contents, Side}
+use Rattle.merkle_wire.specs.Outlines.{Outline, IsTold, outline_bytes, keys_among, node_pairs, AreRowsAt, rows_told, digests_told, page_told, page_bytes, nodes_digest, pages_beside}
+use Rattle.merkle_wire.specs.Replies.{IsPartOf, Part, RowsFit, items_over, part_bytes, rows_bytes, root_reply_bytes, part_in_bytes, AnswersFirst, outline_over_bytes}
+use Rattle.merkle_wire.specs.declared.gaps.OwnedGap.{OwnedGap}
+use Rattle.merkle_wire.specs.declared.nodes.ToldRows.{ToldRows}
+use Rattle.merkle_wire.specs.declared.outlines.Telling.{Telling}
+use Rattle.std.specs.List.{AllByRecursion}
+use Rattle.merkle_bytes.specs.Reading.{Reads}
+use Rattle.merkle_bytes.specs.declared.reader.Reader.{Reader}
+use Rattle.merkle_wire.specs.Coming.{AscendIn, OutlinesCome}
+use Rattle.merkle_wire.specs.Gaps.{owned_gap}
+use Rattle.merkle_wire.specs.Taking.{AreBehind, IsBehind, AddsRows, AreTaken, IsRootTaken, ValuesCome, PartsCome, AsksAgain, AreNewGaps}
+use Rattle.merkle_wire.specs.declared.coming.OutlineRead.{OutlineRead}
+use Rattle.merkle_wire.specs.declared.coming.OutlineRead.TheVariants.{Rows, Digests, Page}
+use Rattle.merkle_wire.specs.declared.message.Kind.TheVariants.{Outlines as outlines_kind, Nodes as nodes_kind}
+use Rattle.merkle_wire.specs.declared.question.Question.{Question}
+use Rattle.merkle_wire.specs.declared.question.Question.TheVariants as ask
+use Rattle.merkle_wire.specs.declared.replies.Reply.{Reply}
+use Rattle.merkle_wire.specs.declared.replies.Reply.TheVariants as came
+use Rattle.merkle_wire.specs.declared.wanted.Wanted.{Wanted}
+use Rattle.merkle_replica.specs.Laws.{Laws}
+use Rattle.merkle_tree_theory.specs.Gap.{Gap}
+use Rattle.merkle_wire.specs.Underway.{Found}
+use Rattle.merkle_wire.specs.declared.message.Kind.{Kind}
+use Rattle.merkle_tree_theory.specs.Outline.{Item}
+
+-- the bytes of the value at a key are added where there is one, and nothing where there is none
+abbrev pub AddsValueAt : {K V : Type 0} → (K → K → Ordering) → (V → List ℕ) → List (K × V) → K → Vec ℕ → Vec ℕ → Bool → Type 0
+AddsValueAt cmp values rows key old new true = (value : _) × (get cmp rows key ≡ Some value) × AddsBytes old (values value) new
+AddsValueAt cmp values rows key old new false = (get cmp rows key ≡ None) × (new.items ≡ old.items)
+
+-- an outline of which P holds is written after a bound
+abbrev pub AddsTold : {K V : Type 0} → (K → List ℕ) → (V → List ℕ) → (Outline K V → Type 0) → Option K → Vec ℕ → Vec ℕ → Type 0
+AddsTold encoding values P after old new = (told : Outline _ _) × P told × AddsBytes old (outline_bytes encoding values (bound_key encoding [] after) told) new
+
+-- the bytes of a page with these nodes and items, after a key
+abbrev pub lent_page_bytes : {K : Type 0} → (K → List ℕ) → List ℕ → List (Bor K × Bor (List ℕ)) → List (Item K (List ℕ)) → List ℕ
+lent_page_bytes encoding last nodes list = page_bytes encoding last (nodes_digest (node_pairs nodes)) (keys_among (node_pairs nodes)) (pages_beside None list)
+
+module _ {K V : Type 0} (cmp : K → K → Ordering) (encoding : K → List ℕ) (values : V → List ℕ) (rows : List (K × V)) where
+  -- the row at a key is added after the last one, where there is one
+  abbrev pub AddsRowAt : K → List ℕ → List ℕ → ToldRows → ToldRows → Type 0
+  AddsRowAt key last last' old new = ((get cmp rows key ≡ None) × (last' ≡ last) × (new.count ≡ old.count) × (new.bytes.items ≡ old.bytes.items))
+      ⊎ ((value : V) × (get cmp rows key ≡ Some value) × (last' ≡ encoding key) × (new.count ≡ old.count + 1)
+      × (new.bytes.items ≡ old.bytes.items ++ row_behind encoding values last (key, value)))
+
+  -- these are the rows of nodes that are lent, after a key, as bytes, and how many they are
+  abbrev pub AreRowsOfNodes : List (Bor K × Bor (List ℕ)) → List ℕ → ToldRows → Type 0
+  AreRowsOfNodes nodes last told = (found : List (K × V)) × AreRowsAt cmp rows (keys_among (node_pairs nodes)) found
+      × (told.count ≡ length found) × (told.bytes.items ≡ rows_bytes encoding values last found)
+
+  -- the rows in a gap are written, or the first of them, as far as this many bytes suffice
+  abbrev pub TellsPart : ℕ → OwnedGap K → Vec ℕ → Vec ℕ → Type 0
+  TellsPart most gap old new = (part : Part K V) × IsPartOf cmp rows gap part
+      × AddsBytes old (part_bytes encoding values (bound_key encoding [] gap.after) part) new × RowsFit encoding values most old.items (gap, part)
+
+-- what is told of the page over a gap is written
+abbrev pub TellsPage : {K V H : Type 0} → (K → K → Ordering) → (K → List ℕ) → (K → List ℕ) → (V → List ℕ) → Contents K V H → Telling → OwnedGap K → Vec ℕ → Vec ℕ → Type 0
+TellsPage cmp bytes_of encoding values side telling gap = AddsTold encoding values (IsTold cmp side.rows telling.with_pages (items_over cmp bytes_of side.tree gap)) gap.after
+
+-- a reply of this kind tells of the pages over the first of the gaps
+abbrev pub TellsPages : {K V H : Type 0} → (K → K → Ordering) → (K → List ℕ) → (K → List ℕ) → (V → List ℕ) → Contents K V H → Telling → Kind → List (OwnedGap K) → List ℕ → Type 0
+TellsPages cmp bytes_of encoding values side telling kind = AnswersFirst kind (outline_over_bytes encoding values) (λ g. IsTold cmp side.rows telling.with_pages (items_over cmp bytes_of side.tree g))
+
+-- nodes that were read, each as its key and the digest of its value
+abbrev pub nodes_read : {K : Type 0} → List (Wanted K × Bor (List ℕ)) → List (K × List ℕ)
+nodes_read = map (λ n. (n.0.key, n.1.now))
+
+-- the digests of the pages before nodes and after the last
+abbrev pub digests_beside : {K : Type 0} → List (Option (List ℕ) × Wanted K) → Option (List ℕ) → List (Option (List ℕ))
+digests_beside below last = map (λ b. b.0) below ++ last ∷ []
+
+-- the keys of the nodes
+abbrev pub below_keys : {K : Type 0} → List (Option (List ℕ) × Wanted K) → List K
+below_keys = map (λ b. b.1.key)
+
+-- what was read of the page over a gap, as it was told
+abbrev pub as_told : {K V : Type 0} → OutlineRead K V → Outline K V
+as_told (Rows rows bytes) = rows_told rows.items
+as_told (Digests nodes) = digests_told (nodes_read nodes.items)
+as_told (Page page) = page_told page.digest (below_keys page.below.items) (digests_beside page.below.items page.last)
+
+-- so it is for several gaps
+abbrev pub outlines_read : {K V : Type 0} → List (OwnedGap K × OutlineRead K V) → List (OwnedGap K × Outline K V)
+outlines_read = map (λ t. (t.0, as_told t.1))
+
+module _ {K V : Type 0} (cmp : K → K → Ordering) (encoding : K → List ℕ) (values : V → List ℕ) where
+  -- a part of the rows in a gap was read, and its rows added; the gap after it is added where there are more
+  abbrev pub ReadsPart : OwnedGap K → Reader → Reader → List (K × V) → List (K × V) → List (OwnedGap K) → List (OwnedGap K) → Type 0
+  ReadsPart gap old new before after left left' = (part : Part K V) × (behind : List (OwnedGap K))
+      × Reads old (part_bytes encoding values (bound_key encoding [] gap.after) part) new × AscendIn cmp (owned_gap gap) (map (λ r. r.0) part.rows)
+      × IsBehind cmp (owned_gap gap) part behind × (left' ≡ left ++ behind) × (after ≡ before ++ part.rows)
+
+  -- so were parts of the first gaps, this many of them
+  abbrev pub ReadsPartsOf : List (OwnedGap K) → Reader → Reader → List (K × V) → List (K × V) → List (OwnedGap K) → List (OwnedGap K) → ℕ → Type 0
+  ReadsPartsOf gaps old new before after left left' count = (count ≤ length gaps) × ((told : List (OwnedGap K × Part K V)) × (behind : List (OwnedGap K)) × (map (λ t. t.0) told ≡ take count gaps)
+      × Reads old (flat_map (part_in_bytes encoding values) told) new × AllByRecursion (λ t. AscendIn cmp (owned_gap t.0) (map (λ r. r.0) t.1.rows)) told
+      × AreBehind cmp told behind × (left' ≡ left ++ behind) × (after ≡ before ++ flat_map (λ t. t.1.rows) told))
+
+  -- a reply to a question was read, after which this question is to be asked again, or none
+  abbrev pub IsReplyRead : ℕ → Question K → List ℕ → Reply K V → Option (Question K) → Type 0
+  IsReplyRead n (ask.Root settings) reply read again = (count : ℕ) × (digest : Option (List ℕ)) × (read ≡ came.Root count digest) × (reply ≡ root_reply_bytes count digest) × (again ≡ None)
+  IsReplyRead n (ask.Outlines most gaps) reply read again = (all : Vec (OwnedGap K × OutlineRead K V)) × (left : List (OwnedGap K)) × (read ≡ came.Outlines all)
+      × OutlinesCome cmp encoding values n outlines_kind (λ told. told ≡ outlines_read all.items) gaps.items reply left × AsksAgain (ask.Outlines most) left again
+  IsReplyRead n (ask.Nodes most gaps) reply read again = (all : Vec (OwnedGap K × OutlineRead K V)) × (left : List (OwnedGap K)) × (read ≡ came.Outlines all)
+      × OutlinesCome cmp encoding values n nodes_kind (λ told. told ≡ outlines_read all.items) gaps.items reply left × AsksAgain (ask.Nodes most) left again
+  IsReplyRead n (ask.RowsAt keys) reply read again = (all : Vec (K × V)) × (left : List (Wanted K)) × (read ≡ came.Rows all)
+      × ValuesCome values (λ rows. all.items ≡ rows) keys.items reply left × AsksAgain ask.RowsAt left again
+  IsReplyRead n (ask.RowsIn gaps) reply read again = (all : Vec (K × V)) × (left : List (OwnedGap K)) × (read ≡ came.Rows all)
+      × PartsCome cmp encoding values (λ rows. all.items ≡ rows) gaps.items reply left × AsksAgain ask.RowsIn left again
+
+-- gaps of pages are added, of which P holds
+abbrev pub AddsGaps : {K V : Type 0} → (List (Gap K) → Type 0) → Found K V → Found K V → Type 0
+AddsGaps P before after = (gaps : List _) × P gaps × (after ≡ record before { below = before.below ++ gaps })
+
+-- so are those into which the keys of a page part a gap
+abbrev pub AddsGapsBeside : {K V H : Type 0} → Laws K V H → Side K V H → Gap K → List (Option (List ℕ) × Wanted K) → Option (List ℕ) → Found K V → Found K V → Type 0
+AddsGapsBeside laws local gap below last = AddsGaps (AreNewGaps laws local gap (below_keys below) (digests_beside below last))
+
+-- what a reply told is taken: what the side doesn't have is added to what was found
+abbrev pub IsReplyTaken : {K V H : Type 0} → Laws K V H → Side K V H → Reply K V → Found K V → Found K V → Type 0
+IsReplyTaken laws local (came.Root count digest) before after = IsRootTaken laws local digest before after
+IsReplyTaken laws local (came.Outlines told) before after = AreTaken laws local (outlines_read told.items) before after
+IsReplyTaken laws local (came.Rows rows) before after = AddsRows laws local rows.items before after
