@@ -1,0 +1,13 @@
+pub mod Calls
+pub mod Cells
+pub mod Faults
+pub mod Filling
+pub mod Maps
+pub mod Outlines
+pub mod Overs
+pub mod Pages
+pub mod Places
+pub mod Rows
+pub mod Tables
+pub mod Texts
+pub mod Touches

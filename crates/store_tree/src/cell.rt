@@ -1,0 +1,144 @@
+//! Cells as rows of the table.
+ghost use Rattle.std.specs.Prelude.{◌≡◌, pos, IfOk, OnOk};
+ghost use Rattle.sqlite_value.specs.Value.{owned};
+ghost use Rattle.sqlite_value.specs.declared.value.Value.TheVariants.{Int};
+ghost use Rattle.store_tree.specs.Outlines.{told_digest};
+ghost use Rattle.store_tree.specs.Rows.{bound_bytes, cell_row, front_value, known_value, row_of_cell};
+
+use crate::fault::TreeFault;
+use crate::pairs::DIGEST_LEN;
+use merkle_digest::PageDigest;
+use sqlite_value::row::Row;
+use sqlite_value::value::ValueRef;
+use std::alloc::Global;
+
+/// What is known of the keys in a gap.
+#[derive(Clone, Copy, Drop)]
+pub enum Known {
+    /// Nothing is known of them.
+    Unknown,
+    /// There are none.
+    Nothing,
+    /// The digest of the page that they stand in.
+    Page([u8; DIGEST_LEN]),
+}
+
+/// A gap of a level, from a key on that level or above it to the next one.
+#[derive(Drop)]
+pub struct Cell {
+    /// The level, from 1 on.
+    pub level: u16,
+    /// The key above which the gap begins, or `None` for the first gap of the level.
+    pub front: Option<String>,
+    /// What is known of the keys in the gap.
+    pub known: Known,
+}
+
+/// The digest of what is known to be a page.
+pub(crate) fn digest_in(known: &Known) -> Option<PageDigest>
+    ensures { result ≡ told_digest known.now }
+{
+    match known {
+        Known::Unknown => None,
+        Known::Nothing => None,
+        Known::Page(digest) => Some(PageDigest::new(*digest)),
+    }
+}
+
+/// A level.
+fn level_in(value: ValueRef<'_>) -> Result<u16, TreeFault>
+    ensures { IfOk result (λ level. owned value.entry ≡ Int (pos level)) }
+{
+    let ValueRef::Int(number) = value else {
+        return Err(TreeFault::Malformed);
+    };
+    match u16::try_from(number) {
+        Ok(level) => Ok(level),
+        Err(_) => Err(TreeFault::Malformed),
+    }
+}
+
+/// A key, in memory of its own, or none.
+fn front_in(alloc: Global, value: ValueRef<'_>) -> Result<Option<String>, TreeFault>
+    ensures { IfOk result (λ front. owned value.entry ≡ front_value (bound_bytes front)) }
+{
+    let bytes = match value {
+        ValueRef::Null => return Ok(None),
+        ValueRef::Text(bytes) => bytes,
+        _ => return Err(TreeFault::Malformed),
+    };
+    match str::from_utf8(bytes) {
+        Ok(text) => Ok(Some(String::from_str(alloc, text)?)),
+        Err(_) => Err(TreeFault::Malformed),
+    }
+}
+
+/// What is known of a gap.
+fn known_in(value: ValueRef<'_>) -> Result<Known, TreeFault>
+    ensures { IfOk result (λ known. owned value.entry ≡ known_value known) }
+{
+    let bytes = match value {
+        ValueRef::Null => return Ok(Known::Unknown),
+        ValueRef::Int(0) => return Ok(Known::Nothing),
+        ValueRef::Blob(bytes) => bytes,
+        _ => return Err(TreeFault::Malformed),
+    };
+    match <[u8; DIGEST_LEN]>::try_from(bytes) {
+        Ok(digest) => Ok(Known::Page(digest)),
+        Err(_) => Err(TreeFault::Malformed),
+    }
+}
+
+/// The cell of a row, in memory of its own.
+pub(crate) fn cell_of(alloc: Global, row: &Row) -> Result<Cell, TreeFault>
+    ensures { IfOk result (λ cell. row.now ≡ row_of_cell cell) }
+{
+    if row.len() != 3 {
+        return Err(TreeFault::Malformed);
+    }
+    let level = level_in(row.get(0))?;
+    let front = front_in(alloc, row.get(1))?;
+    let known = known_in(row.get(2))?;
+    Ok(Cell {
+        level,
+        front,
+        known,
+    })
+}
+
+/// The value of a front.
+fn value_of_front(front: &Option<String>) -> ValueRef<'_>
+    ensures { owned result ≡ front_value (bound_bytes front.now) }
+{
+    match front {
+        Some(key) => ValueRef::Text(key.as_bytes()),
+        None => ValueRef::Null,
+    }
+}
+
+/// The value of what is known of a gap.
+fn value_of_known(known: &Known) -> ValueRef<'_>
+    ensures { owned result ≡ known_value known.now }
+{
+    match known {
+        Known::Unknown => ValueRef::Null,
+        Known::Nothing => ValueRef::Int(0),
+        Known::Page(digest) => ValueRef::Blob(digest),
+    }
+}
+
+/// Makes a row that of a cell.
+pub(crate) fn fill(
+    row: &mut Row,
+    level: u16,
+    front: &Option<String>,
+    known: &Known,
+) -> Result<(), TreeFault>
+    ensures { OnOk result (row.new ≡ cell_row level (bound_bytes front.now) known.now) }
+{
+    row.clear();
+    row.push(ValueRef::Int(i64::from(level)))?;
+    row.push(value_of_front(front))?;
+    row.push(value_of_known(known))?;
+    Ok(())
+}

@@ -1,0 +1,6 @@
+//! Tests of the tree of a store, over a store in memory, against trees in memory.
+#![tactic(auto)]
+
+#[cfg(test)]
+mod random_maps;
+pub mod sorted_rows;

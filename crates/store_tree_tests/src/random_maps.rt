@@ -1,0 +1,325 @@
+//! Random writes to a table of cells, after which it tells what a tree in memory tells of the same map.
+use crate::sorted_rows::SortedRows;
+use merkle_digest::{PageDigest, SipHasher, ValueDigest, level};
+use merkle_search_tree::builder::{Builder, PageFormat};
+use merkle_search_tree::{Gap, MerkleSearchTree, OutlineItem};
+use sqlite_trees::memory::MemStore;
+use sqlite_trees::schema::Object;
+use sqlite_trees::store::{Shape, Store};
+use sqlite_value::keys::Order;
+use std::alloc::{AllocError, Global};
+use std::num::NonZeroU8;
+use std::process::Abort;
+use std::test::Fail;
+use store_tree::TreeFault;
+use store_tree::outline::{Outline, outline_over};
+use store_tree::over::is_page;
+use store_tree::pairs::DIGEST_LEN;
+use store_tree::root::root_digest;
+use store_tree::table::has_table;
+use store_tree::write::write;
+use test_keys::Random;
+
+type Tree = MerkleSearchTree<String, u64, SipHasher, DIGEST_LEN>;
+
+/// An item of an outline of such a tree.
+type Item<'a> = OutlineItem<'a, DIGEST_LEN, String>;
+
+/// A map three times: as a tree in memory, as rows, and as the gaps of its tree in a store.
+#[derive(Drop)]
+struct Sides {
+    tree: Tree,
+    rows: SortedRows,
+    store: MemStore,
+}
+
+/// A store in memory with three empty tables, of which the last is that of cells.
+fn store(alloc: Global) -> Result<MemStore, AllocError> {
+    let entries = Object {
+        shape: Shape::Index(Order::PLAIN),
+        kind: "table",
+        name: "entry",
+        table: "entry",
+        reals: 0,
+        sql: None,
+    };
+    let about = Object {
+        name: "about",
+        table: "about",
+        ..entries
+    };
+    let cells = Object {
+        name: "cell",
+        table: "cell",
+        ..entries
+    };
+    MemStore::new(alloc, &[entries, about, cells])
+}
+
+/// The empty map, whose tree has this level base.
+fn empty(alloc: Global, base: u8) -> Result<Sides, AllocError> {
+    let base = NonZeroU8::new(base).ok_or(AllocError)?;
+    let builder = Builder::default().with_level_base(base);
+    Ok(Sides {
+        tree: builder.with_page_format(PageFormat::V2).build(alloc),
+        rows: SortedRows::new(alloc),
+        store: store(alloc)?,
+    })
+}
+
+/// Writes a key to the table of cells.
+fn write_key(
+    rt: &impl Abort,
+    alloc: Global,
+    store: &mut MemStore,
+    level: u8,
+    key: &String,
+) -> Result<(), TreeFault> {
+    assert!(rt; has_table(store));
+    write(alloc, store, level, key)
+}
+
+/// Sets a key to a value, on all sides.
+fn set(
+    rt: &impl Abort,
+    alloc: Global,
+    sides: &mut Sides,
+    key: &String,
+    value: u64,
+) -> Result<(), Fail> {
+    let on = level(&sides.tree.key_digest(key), sides.tree.level_base());
+    let digest = ValueDigest::new(sides.tree.value_digest(&value));
+    write_key(rt, alloc, &mut sides.store, on, key)?;
+    sides.rows.set(key.clone()?, digest)?;
+    sides.tree.upsert(key.clone()?, &value)?;
+    Ok(())
+}
+
+/// The digest of the root page, by the table of cells.
+fn root_of(
+    rt: &impl Abort,
+    alloc: Global,
+    sides: &mut Sides,
+) -> Result<Option<PageDigest>, TreeFault> {
+    assert!(rt; has_table(&sides.store));
+    root_digest(alloc, &mut sides.store, &sides.rows)
+}
+
+/// The outline of the page over a gap, by the table of cells.
+fn told(
+    rt: &impl Abort,
+    alloc: Global,
+    sides: &mut Sides,
+    after: &Option<String>,
+    before: &Option<String>,
+) -> Result<Option<Outline>, TreeFault> {
+    assert!(rt; has_table(&sides.store));
+    outline_over(alloc, &mut sides.store, &sides.rows, after, before)
+}
+
+/// Whether the page with this digest is over a gap, by the table of cells.
+fn has_page(
+    rt: &impl Abort,
+    alloc: Global,
+    sides: &mut Sides,
+    gap: &(Option<String>, Option<String>),
+    digest: &PageDigest,
+) -> Result<bool, TreeFault> {
+    assert!(rt; has_table(&sides.store));
+    is_page(alloc, &mut sides.store, &sides.rows, &gap.0, &gap.1, digest)
+}
+
+/// Whether this is the digest of a page that is there, or there is neither.
+fn is_digest(told: &Option<PageDigest>, page: Option<&PageDigest>) -> bool {
+    match (told, page) {
+        (None, None) => true,
+        (Some(own), Some(other)) => *own == *other,
+        _ => false,
+    }
+}
+
+/// Whether two bounds are one key, or there is neither.
+fn is_bound(own: &Option<&String>, other: &Option<&String>) -> bool {
+    match (own, other) {
+        (None, None) => true,
+        (Some(key), Some(bound)) => **key == **bound,
+        _ => false,
+    }
+}
+
+/// Whether two items are the same.
+fn is_item(own: &Item<'_>, other: &Item<'_>) -> bool {
+    match (own, other) {
+        (OutlineItem::Node(key, digest), OutlineItem::Node(own_key, own_digest)) => {
+            **key == **own_key && **digest == **own_digest
+        }
+        (OutlineItem::Page(gap, digest), OutlineItem::Page(own_gap, own_digest)) => {
+            is_bound(&gap.after, &own_gap.after)
+                && is_bound(&gap.before, &own_gap.before)
+                && **digest == **own_digest
+        }
+        _ => false,
+    }
+}
+
+/// Whether two lists have the same items.
+fn are_items(own: &[Item<'_>], other: &[Item<'_>]) -> bool {
+    for (item, wanted) in own.iter().zip(other) {
+        if !is_item(item, wanted) {
+            return false;
+        }
+    }
+    own.len() == other.len()
+}
+
+/// A gap that is lent.
+fn lent(gap: &(Option<String>, Option<String>)) -> Gap<'_, String> {
+    Gap {
+        after: gap.0.as_ref(),
+        before: gap.1.as_ref(),
+    }
+}
+
+/// Whether the same is told over a gap by the table of cells as by the tree.
+fn tell_alike(
+    rt: &impl Abort,
+    alloc: Global,
+    sides: &mut Sides,
+    gap: &(Option<String>, Option<String>),
+) -> Result<bool, Fail> {
+    let told = told(rt, alloc, sides, &gap.0, &gap.1)?;
+    let Some(list) = sides.tree.outline(lent(gap))? else {
+        return Ok(false);
+    };
+    let Some(outline) = &told else {
+        return Ok(list.is_empty());
+    };
+    let items = outline.items(alloc, lent(gap))?;
+    Ok(!list.is_empty() && are_items(&items, &list))
+}
+
+/// Whether the root page has one digest on both sides.
+fn have_one_root(rt: &impl Abort, alloc: Global, sides: &mut Sides) -> Result<bool, Fail> {
+    let found = root_of(rt, alloc, sides)?;
+    let _ = sides.tree.root_hash();
+    Ok(match sides.tree.whole() {
+        None => found.is_none(),
+        Some(OutlineItem::Page(_, digest)) => is_digest(&found, Some(digest)),
+        Some(_) => false,
+    })
+}
+
+/// A copy of a bound.
+fn copy(bound: &Option<&String>) -> Result<Option<String>, AllocError> {
+    match bound {
+        None => Ok(None),
+        Some(key) => Ok(Some(String::clone(key)?)),
+    }
+}
+
+/// The gaps of the pages right below the one over a gap, by the tree, each with the page's digest.
+fn pages_below(
+    alloc: Global,
+    tree: &Tree,
+    gap: &(Option<String>, Option<String>),
+) -> Result<Vec<((Option<String>, Option<String>), PageDigest)>, AllocError> {
+    let mut found = Vec::new(alloc);
+    let Some(list) = tree.outline(lent(gap))? else {
+        return Ok(found);
+    };
+    for item in &list {
+        if let OutlineItem::Page(below, digest) = item {
+            let bounds = (copy(&below.after)?, copy(&below.before)?);
+            found.push((bounds, PageDigest::clone(digest)?))?;
+        }
+    }
+    Ok(found)
+}
+
+/// The number of pages, where the same is told of each on both sides; `None` where it isn't.
+fn pages_alike(rt: &impl Abort, alloc: Global, sides: &mut Sides) -> Result<Option<u64>, Fail> {
+    let other = PageDigest::new([0; DIGEST_LEN]);
+    let mut gaps = vec![in alloc; (None, None)]?;
+    for count in 0..10_000 {
+        let Some(gap) = gaps.pop() else {
+            return Ok(Some(count));
+        };
+        if !tell_alike(rt, alloc, sides, &gap)? || has_page(rt, alloc, sides, &gap, &other)? {
+            return Ok(None);
+        }
+        for (below, digest) in pages_below(alloc, &sides.tree, &gap)? {
+            if !has_page(rt, alloc, sides, &below, &digest)? {
+                return Ok(None);
+            }
+            gaps.push(below)?;
+        }
+    }
+    Ok(None)
+}
+
+/// A key by its number.
+fn key_of(alloc: Global, number: u64) -> Result<String, AllocError> {
+    format!(in alloc; "key {number}")
+}
+
+/// A bound by a random number: half of the time there is none.
+fn bound(alloc: Global, random: &mut Random, keys: u64) -> Result<Option<String>, AllocError> {
+    if random.below(2) == 0 {
+        return Ok(None);
+    }
+    Ok(Some(key_of(alloc, random.below(keys))?))
+}
+
+/// Writes random keys, this many times, and compares both sides after each write: sometimes the root, and what is over a random gap.
+fn write_at_random(
+    rt: &impl Abort,
+    alloc: Global,
+    sides: &mut Sides,
+    random: &mut Random,
+    keys: u64,
+    times: u64,
+) -> Result<bool, Fail> {
+    for _ in 0..times {
+        let key = key_of(alloc, random.below(keys))?;
+        set(rt, alloc, sides, &key, random.below(1000))?;
+        let _ = sides.tree.root_hash();
+        let gap = (bound(alloc, random, keys)?, bound(alloc, random, keys)?);
+        let is_one = random.below(3) != 0 || have_one_root(rt, alloc, sides)?;
+        if !is_one || !tell_alike(rt, alloc, sides, &gap)? {
+            return Ok(false);
+        }
+    }
+    Ok(true)
+}
+
+/// The level bases: where it is small, few keys have several levels.
+const BASES: [u8; 3] = [1, 2, 16];
+
+#[test]
+fn an_empty_table_tells_of_nothing(rt: HostRuntime) -> Result<(), Fail> {
+    let mut sides = empty(rt.alloc(), 16)?;
+    let _ = sides.tree.root_hash();
+    assert!(rt; have_one_root(&rt, rt.alloc(), &mut sides)?);
+    assert!(rt; pages_alike(&rt, rt.alloc(), &mut sides)? == Some(1));
+    Ok(())
+}
+
+/// How many keys there are to choose from, and how many writes are made of them, one batch after the other.
+const BATCHES: [(u64, u64); 3] = [(8, 20), (40, 40), (150, 60)];
+
+#[test]
+fn random_writes_leave_the_tree_of_the_map(rt: HostRuntime) -> Result<(), Fail> {
+    for base in BASES {
+        let mut random = Random::new(u64::from(base));
+        let mut sides = empty(rt.alloc(), base)?;
+        for (keys, times) in BATCHES {
+            assert!(rt;
+                write_at_random(&rt, rt.alloc(), &mut sides, &mut random, keys, times)?,
+                "base {base}, {keys} keys"
+            );
+        }
+        let pages = pages_alike(&rt, rt.alloc(), &mut sides)?;
+        assert!(rt; pages.is_some(), "base {base}");
+    }
+    Ok(())
+}
