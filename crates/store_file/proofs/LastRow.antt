@@ -24,11 +24,11 @@ use Rattle.key_order.specs.Text.{Text as Key}
 use Rattle.store_file.proofs.Ascending.{all-middle, ascending-middle}
 
 -- a key of one column is compared with the first column
-prefix_cmp-column : (row : Row) (key : List ℕ) → prefix_cmp plain row (Words key ∷ []) ≡ value_cmp (column row 0) (Words key)
+pub prefix_cmp-column : (row : Row) (key : List ℕ) → prefix_cmp plain row (Words key ∷ []) ≡ value_cmp (column row 0) (Words key)
 prefix_cmp-column [] key = sym (value_cmp-Null (Words key))
 prefix_cmp-column (v ∷ row) key = prefix_cmp-one v row (Words key)
 
-last_or-append : {X : Type 0} (found : Option X) (xs : List X) (x : X) → last_or found (xs ++ x ∷ []) ≡ Some x
+pub last_or-append : {X : Type 0} (found : Option X) (xs : List X) (x : X) → last_or found (xs ++ x ∷ []) ≡ Some x
 last_or-append found [] x = refl
 last_or-append found (y ∷ xs) x = last_or-append (Some y) xs x
 

@@ -11,8 +11,10 @@ pub mod OneLayout
 pub mod OrderOfEntries
 pub mod OtherNotes
 pub mod Outcomes
+pub mod Ranging
 pub mod Reading
 pub mod RowLemmas
+pub mod Setting
 pub mod SiftLemmas
 pub mod SizeLemmas
 pub mod StoreLemmas

@@ -17,7 +17,7 @@ pub from_none : (rows : List Row) → from_key plain [] rows ≡ rows
 from_none [] = refl
 from_none (row ∷ rows) = refl
 
-some_same : {X : Type 0} {x y : X} → Some x ≡ Some y → x ≡ y
+pub some_same : {X : Type 0} {x y : X} → Some x ≡ Some y → x ≡ y
 some_same h = let e = h in cc
 
 pub gives_none : (rows : List Row) (row : Row) (found : Bool) → found ≡ false → GivesRow rows row found → rows ≡ []

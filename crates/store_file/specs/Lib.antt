@@ -6,6 +6,7 @@ pub mod Files
 pub mod Latest
 pub mod Logs
 pub mod Notes
+pub mod Ranges
 pub mod Reading
 pub mod RegisterBytes
 pub mod RegisterLaws

@@ -27,6 +27,10 @@ module _ {S : Type 0} (g : Ghosts S) where
   abbrev pub IsClean : S → Type 0
   IsClean log = doubt (g.view log).is_clean ≡ 0
 
+  -- over a clean disk the first tree is a table without rowids
+  abbrev pub HasEntryTable : S → Type 0
+  HasEntryTable trees = IsClean trees → (g.view trees).shape 0 ≡ Index plain
+
   -- no fault has shut it
   abbrev pub IsOpen : S → Type 0
   IsOpen log = IsTrue (g.view log).is_open

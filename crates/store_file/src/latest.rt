@@ -5,7 +5,7 @@ ghost use Rattle.sqlite_value.specs.Order.{column, value_cmp};
 ghost use Rattle.sqlite_value.specs.declared.value.Value.TheVariants.{Text as Words};
 ghost use Rattle.store_file.specs.Faults.{IsFailure, IsUnwritten};
 ghost use Rattle.store_file.specs.Latest.{said_by, IsLastRow, IsLatestAt, IsThere, IsWrittenLate, HasWriteOver, WritesOver, Removes};
-ghost use Rattle.store_file.specs.Logs.{IsLog, IsSteady, Finds, MakesAndFinds, Refuses, StaysInErr, Leaves, OnlyReads, Writes};
+ghost use Rattle.store_file.specs.Logs.{HasEntryTable, IsSteady, Finds, MakesAndFinds, Refuses, StaysInErr, Leaves, OnlyReads, Writes};
 ghost use Rattle.store_file.specs.Registers.{time_after, HasLastTime};
 ghost use Rattle.store_file.specs.Transactions.{CommitsNothing};
 ghost use Rattle.store_file.specs.Walks.{StaysBut, MakesView};
@@ -37,7 +37,7 @@ fn last_row<S: Store>(
     key: &str,
     row: &mut Row,
 ) -> Result<bool, StoreFault>
-    requires log { IsLog S.Store trees.old }
+    requires table { HasEntryTable S.Store trees.old }
     ensures last { Finds S.Store trees.old trees.new result (λ old. IsLastRow old key.now row.new) }
     ensures failed { IfErr result IsFailure }
     ensures same { MakesView S.Store trees.old trees.new result StaysBut }
@@ -51,13 +51,18 @@ fn last_row<S: Store>(
     Ok(is_of(row, key))
 }
 
-/// The register of the last row of a key.
-fn last_register<S: Store>(
+/// The latest register that the table of entries has for a key, if it has one, within a transaction: it reads what is written and not yet committed
+/// too. It takes what [`find`] takes.
+///
+/// # Errors
+///
+/// [`StoreFault::Database`], [`StoreFault::Malformed`] and [`StoreFault::Memory`]. Nothing is rolled back.
+pub fn latest_at<S: Store>(
     alloc: Global,
     trees: &mut S,
     key: &str,
 ) -> Result<Option<Register>, StoreFault>
-    requires log { IsLog S.Store trees.old }
+    requires table { HasEntryTable S.Store trees.old }
     ensures latest { Finds S.Store trees.old trees.new result (λ old. IsLatestAt old key.now) }
     ensures failed { IfErr result IsFailure }
     ensures same { MakesView S.Store trees.old trees.new result StaysBut }
@@ -91,7 +96,7 @@ pub fn find<S: Store>(
     ensures failed { IfErr result IsFailure }
     ensures reads { OnlyReads S.Store log.old log.new result }
 {
-    let found = last_register(alloc, &mut log.trees, key);
+    let found = latest_at(alloc, &mut log.trees, key);
     settled(&mut log.trees, found)
 }
 

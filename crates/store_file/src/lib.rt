@@ -10,6 +10,7 @@ pub mod format;
 pub mod latest;
 pub mod log;
 pub mod naming;
+pub mod range;
 pub mod reader;
 pub mod register;
 mod registers;

@@ -1,20 +1,29 @@
 //! The entries of a log, and what is added to them.
-ghost use Rattle.std.specs.Prelude.{◌≡◌, ◌≤◌, ◌^◌, IfErr, IsErrOf};
+ghost use Rattle.std.specs.Prelude.{◌≡◌, ◌≤◌, ◌^◌, IfErr, IsErrOf, IsTrue};
 ghost use Rattle.store_file.specs.Changes.{HasOneMore, HasEntriesMore, HasEntriesInstead};
 ghost use Rattle.store_file.specs.Entries.{HoldsEntries};
 ghost use Rattle.store_file.specs.Faults.{IsFailure, IsUnwritten};
-ghost use Rattle.store_file.specs.Logs.{IsLog, Finds, OnlyReads, Writes};
+ghost use Rattle.store_file.specs.Logs.{HasEntryTable, IsLog, Finds, OnlyReads, Writes};
 ghost use Rattle.store_file.specs.Registers.{HaveLateTime};
 ghost use Rattle.store_file.specs.Transactions.{IsTransaction};
 
+use crate::catalog::ENTRIES;
 pub use crate::entry::Entries;
 use crate::fault::StoreFault;
 use crate::log::{Log, settled};
 use crate::register::Register;
 use crate::walk::{all_entries, insert, insert_all, replace};
-use sqlite_trees::store::Store;
+use sqlite_trees::store::{Shape, Store};
+use sqlite_value::keys::Order;
 use sqlite_value::row::Row;
 use std::alloc::Global;
+
+/// Whether a store has the table of entries, which the calls within a transaction ask for, and none takes away (`CommitsNothing`).
+pub fn has_entry_table<S: Store>(trees: &S) -> bool
+    ensures { IsTrue result → HasEntryTable S.Store trees.now }
+{
+    trees.shape(ENTRIES) == Shape::Index(Order::PLAIN)
+}
 
 /// The entries of the log, ascending by key, then by time, writer and value. It takes time and memory linear in the log.
 ///

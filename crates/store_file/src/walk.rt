@@ -6,7 +6,7 @@ ghost use Rattle.sqlite_value.specs.Keys.{plain, entry_cmp};
 ghost use Rattle.store_file.specs.Changes.{KeepsNotes, HasInstead, HasOneMore, HasEntriesMore, HasEntriesInstead};
 ghost use Rattle.store_file.specs.Entries.{entry_row};
 ghost use Rattle.store_file.specs.Faults.{IsFailure, IsUnwritten};
-ghost use Rattle.store_file.specs.Logs.{HasTables, IsClean, Finds, Makes, MakesAndFinds};
+ghost use Rattle.store_file.specs.Logs.{HasEntryTable, HasTables, IsClean, Finds, Makes, MakesAndFinds};
 ghost use Rattle.store_file.specs.Registers.{HaveLateTime};
 ghost use Rattle.store_file.specs.Transactions.{CommitsNothing};
 ghost use Rattle.store_file.specs.Walks.{IsSought, StaysBut, WasSound, MakesView};
@@ -29,7 +29,7 @@ pub(crate) fn look<S: Store>(
     direction: Direction,
     row: &mut Row,
 ) -> Result<bool, StoreError>
-    requires tables { IsClean S.Store trees.old → HasTables (S.Store.view trees.old) }
+    requires table { HasEntryTable S.Store trees.old }
     ensures found { Finds S.Store trees.old trees.new result (λ old. IsSought old key.now direction row.new) }
     ensures same { MakesView S.Store trees.old trees.new result StaysBut }
     ensures sound { MakesView S.Store trees.old trees.new result WasSound }

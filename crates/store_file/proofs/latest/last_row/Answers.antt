@@ -12,7 +12,7 @@ returns-then-not-branch-clause-last g c clean =
     let old = c.args.trees.now in
     let first : IsClean s old = omega (arith, c.look.ensures.uncommitted.quiet.clean, clean) in
     let sound : (s.view old).is_broken ≡ false = c.in_ok-look.ensures.sound clean in
-    let up : IsIndex plain (trees_of s old 0) = subst (λ shape. IsShaped shape (trees_of s old 0)) (c.requires.log.tables first).entries (g.met.S.Store.ordered old sound 0) in
+    let up : IsIndex plain (trees_of s old 0) = subst (λ shape. IsShaped shape (trees_of s old 0)) (c.requires.table first) (g.met.S.Store.ordered old sound 0) in
     none_given c.args.key.now (trees_of s old 0) _ c.look.new.row _ (search rules) up (c.in_ok-look.ensures.found clean) (search rules)
 
 pub returns-clause-last : goal.returns-clause-last
@@ -21,5 +21,5 @@ returns-clause-last g c clean =
     let old = c.args.trees.now in
     let first : IsClean s old = omega (arith, c.look.ensures.uncommitted.quiet.clean, clean) in
     let sound : (s.view old).is_broken ≡ false = c.in_ok-look.ensures.sound clean in
-    let up : IsIndex plain (trees_of s old 0) = subst (λ shape. IsShaped shape (trees_of s old 0)) (c.requires.log.tables first).entries (g.met.S.Store.ordered old sound 0) in
+    let up : IsIndex plain (trees_of s old 0) = subst (λ shape. IsShaped shape (trees_of s old 0)) (c.requires.table first) (g.met.S.Store.ordered old sound 0) in
     last_given c.args.key.now (trees_of s old 0) _ c.look.new.row _ c.is_of.result (search rules) up (c.in_ok-look.ensures.found clean) (search rules) c.is_of.ensures

@@ -1,7 +1,7 @@
 use Rattle.std.proofs.Common.{rules}
 use Rattle.store_file.specs.Logs.{trees_of}
 use Rattle.store_file.proofs.LastRow.{last_entry}
-use Rattle.store_file.proofs.latest.last_register.Goals as goal
+use Rattle.store_file.proofs.latest.latest_at.Goals as goal
 
 pub returns-clause-latest : goal.returns-clause-latest
 returns-clause-latest g c clean =

@@ -1,0 +1,20 @@
+use Rattle.std.proofs.Common.{◌≡◌, false, IsSome}
+use Rattle.sqlite_value.specs.Keys.{plain}
+use Rattle.sqlite_trees.specs.Tree.{from_key}
+use Rattle.store_file.specs.Logs.{IsClean, trees_of}
+use Rattle.store_file.specs.Ranges.{row_above}
+use Rattle.store_file.specs.Transactions.{CommitsNothing}
+use Rattle.store_file.specs.Walks.{StaysBut}
+use Rattle.store_file.proofs.Ranging.{IsRanging}
+use Rattle.store_file.proofs.range.latest_between.Given as goal
+
+abbrev pub invariant-entries : goal.invariant-entries
+invariant-entries g l =
+    let view = g.S.Store.view in
+    let clean = IsClean g.S.Store l.trees in record {
+      live : IsSome ((view l.trees).cursors 0);
+      ranging : clean → IsRanging l.fn.after l.fn.before (from_key plain (row_above l.fn.after) (trees_of g.S.Store l.fn.trees 0)) l.rows.items (view l.trees);
+      sound : clean → (view l.fn.trees).is_broken ≡ false;
+      same : clean → StaysBut (view l.fn.trees) (view l.trees);
+      uncommitted : CommitsNothing g.S.Store l.fn.trees l.trees;
+    }
