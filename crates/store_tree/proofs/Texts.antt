@@ -183,7 +183,7 @@ whole_bytes : (t : Tree Text (List ℕ)) → whole_item V2 (λ bytes. bytes) (by
 whole_bytes (page l c (high h)) = refl
 whole_bytes (page l c (node h k d r)) = ap (λ digest. of_page everywhere digest ∷ []) (digest_bytes V2 (page l c (node h k d r)))
 
-get_bytes : (m : List (Text × List ℕ)) (key : Text) → get bytes_order (bytes_map m) (string_bytes key) ≡ get text_order m key
+pub get_bytes : (m : List (Text × List ℕ)) (key : Text) → get bytes_order (bytes_map m) (string_bytes key) ≡ get text_order m key
 get_bytes [] key = refl
 get_bytes (p ∷ ps) key = ap (cond (is_eq (text_order p.0 key)) (Some p.1)) (get_bytes ps key)
 

@@ -3,6 +3,7 @@ ghost use Rattle.std.specs.Prelude.{◌≡◌};
 
 use sqlite_trees::error::StoreError;
 use std::alloc::{AllocError, AllocFailed};
+use store_file::StoreFault;
 
 /// Why a call on a table of cells failed. What a call wrote is then to be rolled back.
 #[derive(Debug, Drop)]
@@ -11,7 +12,7 @@ pub enum TreeFault {
     Database(StoreError),
     /// Out of memory.
     Memory,
-    /// A row of the table is no cell, or the rows are the gaps of no map, or of another one than that which is kept.
+    /// A row of the table is no cell, one of another table isn't what stands there, or the rows are the gaps of no map, or of another one than that which is kept.
     Malformed,
 }
 
@@ -24,6 +25,20 @@ impl From<StoreError> for TreeFault {
         match error {
             StoreError::OutOfMemory => TreeFault::Memory,
             other => TreeFault::Database(other),
+        }
+    }
+}
+
+impl From<StoreFault> for TreeFault {
+    ghost use Rattle.store_tree.specs.Faults.{fault_of_log};
+
+    ghost from_gives = { λ error fault. fault ≡ fault_of_log error };
+
+    fn from(error: StoreFault) -> Self {
+        match error {
+            StoreFault::Database(error) => TreeFault::Database(error),
+            StoreFault::Memory => TreeFault::Memory,
+            _ => TreeFault::Malformed,
         }
     }
 }
