@@ -7,14 +7,14 @@ ghost use Rattle.store_file.specs.Changes.{IsBlank, IsNewStore, HasNoteMore};
 ghost use Rattle.store_file.specs.Entries.{note_in, note_row};
 ghost use Rattle.store_file.specs.Notes.{IsOtherStore, Notes, NotesFormat};
 ghost use Rattle.store_file.specs.Faults.{IsFailure, IsForeign};
-ghost use Rattle.store_file.specs.Logs.{HasTables, IsLog, IsClean, Finds, Makes, Refuses, OnlyReads, Writes};
-ghost use Rattle.store_file.specs.Transactions.{CommitsNothing, IsTransaction};
+ghost use Rattle.store_file.specs.Logs.{HasTables, IsClean, Finds, Makes, Refuses, OnlyReads, Writes};
+ghost use Rattle.store_file.specs.Transactions.{CommitsNothing};
 ghost use Rattle.store_file.specs.Walks.{StaysBut, MakesView};
 
 use crate::catalog::ABOUT;
 use crate::entry::text_in;
 use crate::fault::StoreFault;
-use crate::log::{CURSOR, Log, settled};
+use crate::log::{CURSOR, Log, commit, settled};
 use crate::walk::look;
 use sqlite_trees::error::StoreError;
 use sqlite_trees::store::{Direction, Store};
@@ -236,22 +236,6 @@ fn begin<S: Store>(
     write_note(trees, &mut row, writer, hash_key)
 }
 
-/// Writes the note where there is nothing yet, and commits.
-fn commit_note<S: Store>(
-    alloc: Global,
-    trees: &mut S,
-    writer: &str,
-    hash_key: &[u8; HASH_KEY_LEN],
-) -> Result<(), StoreFault>
-    requires { IsLog S.Store trees.old }
-    ensures done { IsTransaction S.Store trees.old trees.new result (λ _. IsNewStore FORMAT writer.now hash_key.now) }
-    ensures foreign { Refuses S.Store trees.old trees.new result StoreFault.Foreign (λ old. ¬ IsBlank old) }
-{
-    begin(alloc, trees, writer, hash_key)?;
-    trees.commit()?;
-    Ok(())
-}
-
 /// Makes a store of tables without rows, which writes by this name and hashes under this key, or nothing. It takes the time of one transaction.
 ///
 /// ```rust crates/mst_commands/src/backup.rt
@@ -271,6 +255,6 @@ pub fn create<S: Store>(
     ensures created { Writes S.Store log.old log.new result (λ _. IsNewStore FORMAT writer.now hash_key.now) }
     ensures foreign { Refuses S.Store log.old log.new result StoreFault.Foreign (λ trees. ¬ IsBlank trees) }
 {
-    let done = commit_note(alloc, &mut log.trees, writer, hash_key);
-    settled(&mut log.trees, done)
+    let written = begin(alloc, &mut log.trees, writer, hash_key);
+    commit(&mut log.trees, written)
 }

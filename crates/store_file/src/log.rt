@@ -1,8 +1,9 @@
 //! The log of a store over the trees of a file.
-ghost use Rattle.std.specs.Prelude.{◌≡◌, OnOk, OnErr};
+ghost use Rattle.std.specs.Prelude.{◌≡◌, IfErr, IsErrOf, OnOk, OnErr};
 ghost use Rattle.sqlite_trees.specs.View.{IsRolledBack};
-ghost use Rattle.store_file.specs.Logs.{IsLog};
-ghost use Rattle.store_file.specs.Transactions.{StaysQuiet};
+ghost use Rattle.store_file.specs.Faults.{IsUnwritten};
+ghost use Rattle.store_file.specs.Logs.{HasTables, IsClean, IsLog, IsSteady, Writes};
+ghost use Rattle.store_file.specs.Transactions.{CommitsNothing, StaysQuiet, WereWritten};
 
 use crate::fault::StoreFault;
 use sqlite_trees::store::Store;
@@ -61,4 +62,27 @@ pub(crate) fn settled<S: Store, A>(
         trees.rollback();
     }
     done
+}
+
+/// Commits what a call has written, or takes it back where the call failed. What can't be committed is taken back too.
+pub(crate) fn commit<S: Store>(
+    trees: &mut S,
+    written: Result<(), StoreFault>,
+) -> Result<(), StoreFault>
+    requires tables { IsClean S.Store trees.old → HasTables (S.Store.view trees.old) }
+    ensures log { IsLog S.Store trees.new }
+    // Of whatever log the trees were before the call.
+    ensures written { (begun : S) → IsLog S.Store begun → CommitsNothing S.Store begun trees.old
+        → Writes S.Store begun trees.new result (λ _ new. WereWritten S.Store trees.old written new) }
+    ensures steady { IsSteady S.Store trees.old trees.new }
+    ensures late { IsErrOf result StoreFault.Time → IsErrOf written StoreFault.Time }
+    ensures foreign { IsErrOf result StoreFault.Foreign → IsErrOf written StoreFault.Foreign }
+    ensures faults { IfErr written IsUnwritten → IfErr result IsUnwritten }
+{
+    if let Err(why) = written {
+        trees.rollback();
+        return Err(why);
+    }
+    trees.commit()?;
+    Ok(())
 }

@@ -4,14 +4,14 @@ ghost use Rattle.sqlite_trees.specs.Tree.{without_rowid};
 ghost use Rattle.sqlite_trees.specs.View.{OnlyWrites};
 ghost use Rattle.store_file.specs.Changes.{WritesByNow};
 ghost use Rattle.store_file.specs.Notes.{Notes};
-ghost use Rattle.store_file.specs.Logs.{HasTables, IsLog, IsClean, Finds, Makes, Writes};
-ghost use Rattle.store_file.specs.Transactions.{CommitsNothing, IsTransaction};
+ghost use Rattle.store_file.specs.Logs.{HasTables, IsClean, Finds, Makes, Writes};
+ghost use Rattle.store_file.specs.Transactions.{CommitsNothing};
 ghost use Rattle.store_file.specs.Walks.{StaysBut, MakesView};
 
 use crate::catalog::ABOUT;
 use crate::fault::StoreFault;
 use crate::format::{FORMAT, Note, in_format, note_of, number_in, only_note, write_note};
-use crate::log::{Log, settled};
+use crate::log::{Log, commit};
 use sqlite_trees::store::Store;
 use sqlite_value::row::Row;
 use std::alloc::Global;
@@ -58,16 +58,6 @@ fn replace_note<S: Store>(alloc: Global, trees: &mut S, writer: &str) -> Result<
     write_note(trees, &mut Row::new(alloc), writer, &note.hash_key)
 }
 
-/// Puts a note with this writer's name in place of the note, and commits.
-fn commit_name<S: Store>(alloc: Global, trees: &mut S, writer: &str) -> Result<(), StoreFault>
-    requires { IsLog S.Store trees.old }
-    ensures done { IsTransaction S.Store trees.old trees.new result (WritesByNow writer.now) }
-{
-    replace_note(alloc, trees, writer)?;
-    trees.commit()?;
-    Ok(())
-}
-
 /// Gives a store this writer's name in place of its own. It takes the time of one transaction.
 ///
 /// # Errors
@@ -80,6 +70,6 @@ pub fn name_writer<S: Store>(
 ) -> Result<(), StoreFault>
     ensures named { Writes S.Store log.old log.new result (WritesByNow writer.now) }
 {
-    let done = commit_name(alloc, &mut log.trees, writer);
-    settled(&mut log.trees, done)
+    let written = replace_note(alloc, &mut log.trees, writer);
+    commit(&mut log.trees, written)
 }

@@ -3,14 +3,13 @@ ghost use Rattle.std.specs.Prelude.{◌≡◌, ◌≤◌, ◌^◌, IfErr, IsErrO
 ghost use Rattle.store_file.specs.Changes.{HasOneMore, HasEntriesMore, HasEntriesInstead};
 ghost use Rattle.store_file.specs.Entries.{HoldsEntries};
 ghost use Rattle.store_file.specs.Faults.{IsFailure, IsUnwritten};
-ghost use Rattle.store_file.specs.Logs.{HasEntryTable, IsLog, Finds, OnlyReads, Writes};
+ghost use Rattle.store_file.specs.Logs.{HasEntryTable, Finds, OnlyReads, Writes};
 ghost use Rattle.store_file.specs.Registers.{HaveLateTime};
-ghost use Rattle.store_file.specs.Transactions.{IsTransaction};
 
 use crate::catalog::ENTRIES;
 pub use crate::entry::Entries;
 use crate::fault::StoreFault;
-use crate::log::{Log, settled};
+use crate::log::{Log, commit, settled};
 use crate::register::Register;
 use crate::walk::{all_entries, insert, insert_all, replace};
 use sqlite_trees::store::{Shape, Store};
@@ -39,23 +38,6 @@ pub fn read_log<S: Store>(alloc: Global, log: &mut Log<S>) -> Result<Entries, St
     settled(&mut log.trees, read)
 }
 
-/// Adds an entry and commits.
-fn commit_one<S: Store>(
-    alloc: Global,
-    trees: &mut S,
-    key: &str,
-    register: &Register,
-) -> Result<(), StoreFault>
-    requires { IsLog S.Store trees.old }
-    ensures done { IsTransaction S.Store trees.old trees.new result (HasOneMore key.now register.now) }
-    ensures late { IsErrOf result StoreFault.Time → 2 ^ 63 ≤ register.now.time }
-    ensures faults { IfErr result IsUnwritten }
-{
-    insert(trees, &mut Row::new(alloc), key, register)?;
-    trees.commit()?;
-    Ok(())
-}
-
 /// Adds an entry, unless it is there.
 ///
 /// # Errors
@@ -71,24 +53,8 @@ pub fn add<S: Store>(
     ensures late { IsErrOf result StoreFault.Time → 2 ^ 63 ≤ register.now.time }
     ensures faults { IfErr result IsUnwritten }
 {
-    let done = commit_one(alloc, &mut log.trees, key, register);
-    settled(&mut log.trees, done)
-}
-
-/// Adds entries and commits.
-fn commit_more<S: Store>(
-    alloc: Global,
-    trees: &mut S,
-    entries: &[(String, Register)],
-) -> Result<(), StoreFault>
-    requires { IsLog S.Store trees.old }
-    ensures done { IsTransaction S.Store trees.old trees.new result (HasEntriesMore entries.now) }
-    ensures late { IsErrOf result StoreFault.Time → HaveLateTime entries.now }
-    ensures faults { IfErr result IsUnwritten }
-{
-    insert_all(alloc, trees, entries)?;
-    trees.commit()?;
-    Ok(())
+    let written = insert(&mut log.trees, &mut Row::new(alloc), key, register);
+    commit(&mut log.trees, written)
 }
 
 /// Adds entries, all or none, but for those that are there. It takes the time of an insertion for each.
@@ -105,24 +71,8 @@ pub fn add_all<S: Store>(
     ensures late { IsErrOf result StoreFault.Time → HaveLateTime entries.now }
     ensures faults { IfErr result IsUnwritten }
 {
-    let done = commit_more(alloc, &mut log.trees, entries);
-    settled(&mut log.trees, done)
-}
-
-/// Puts entries in place of those that are there, and commits.
-fn commit_instead<S: Store>(
-    alloc: Global,
-    trees: &mut S,
-    entries: &[(String, Register)],
-) -> Result<(), StoreFault>
-    requires { IsLog S.Store trees.old }
-    ensures done { IsTransaction S.Store trees.old trees.new result (HasEntriesInstead entries.now) }
-    ensures late { IsErrOf result StoreFault.Time → HaveLateTime entries.now }
-    ensures faults { IfErr result IsUnwritten }
-{
-    replace(alloc, trees, entries)?;
-    trees.commit()?;
-    Ok(())
+    let written = insert_all(alloc, &mut log.trees, entries);
+    commit(&mut log.trees, written)
 }
 
 /// Leaves only these entries, and that or nothing. It takes the time of one transaction over all rows.
@@ -139,6 +89,6 @@ pub fn replace_all<S: Store>(
     ensures late { IsErrOf result StoreFault.Time → HaveLateTime entries.now }
     ensures faults { IfErr result IsUnwritten }
 {
-    let done = commit_instead(alloc, &mut log.trees, entries);
-    settled(&mut log.trees, done)
+    let written = replace(alloc, &mut log.trees, entries);
+    commit(&mut log.trees, written)
 }
