@@ -25,6 +25,7 @@ use Rattle.store_tree.specs.declared.cell.Known.{Known}
 use Rattle.store_tree.specs.declared.cell.Known.TheVariants.{Unknown, Nothing}
 use Rattle.store_tree.specs.declared.page.Node.{Node}
 use Rattle.store_tree.specs.declared.page.Page.{Page}
+use Rattle.store_tree.proofs.FrontOrder.{map_rows, same_front, same_known}
 use Rattle.store_tree.proofs.Fronts.{Front}
 use Rattle.store_tree.proofs.Noting.{all_knows, knows_all, noted_cells}
 use Rattle.store_tree.proofs.Paging.{page_told}
@@ -32,7 +33,6 @@ use Rattle.store_tree.proofs.Parts.{back_within, front_within, whole}
 use Rattle.store_tree.proofs.Places.{row_at}
 use Rattle.store_tree.proofs.Remaining.{Remains, last_gap, next_gap}
 use Rattle.store_tree.proofs.Scanned.{bound_front, fronts_from, scanned_rows, within_scan}
-use Rattle.store_tree.proofs.Touching.{map_rows, same_front, same_known}
 use Rattle.store_tree.proofs.Writing.{top_is}
 
 -- ---- a cell

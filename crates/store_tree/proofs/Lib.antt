@@ -1,5 +1,6 @@
 pub mod Descending
 pub mod Filling
+pub mod FrontOrder
 pub mod Fronts
 pub mod Listing
 pub mod Members

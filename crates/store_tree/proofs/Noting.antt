@@ -20,12 +20,12 @@ use Rattle.store_tree.specs.Rows.{bound_bytes, cell_row, front_value, row_of_cel
 use Rattle.store_tree.specs.declared.cell.Cell.{Cell}
 use Rattle.store_tree.specs.declared.cell.Known.{Known}
 use Rattle.store_tree.specs.declared.cell.Known.TheVariants.{Unknown, Nothing, Page}
+use Rattle.store_tree.proofs.FrontOrder.{below_true, front_below, fronts_ascend, map_rows, middle, same_front, self_not_below}
 use Rattle.store_tree.proofs.Fronts.{Front, FrontBelow}
 use Rattle.store_tree.proofs.Members.{all_has, has_passing, key_has}
 use Rattle.store_tree.proofs.Places.{replaced_here, replaced_other, replaced_sorted, row_at}
 use Rattle.store_tree.proofs.Scanned.{IsFrontIn, bound_front}
 use Rattle.store_tree.proofs.Sets.{same_key}
-use Rattle.store_tree.proofs.Touching.{below_true, front_below, fronts_ascend, map_rows, middle, same_front, self_not_below}
 use Rattle.store_tree.proofs.Writing.{level_stays}
 
 -- ---- a front has one gap

@@ -9,10 +9,10 @@ use Rattle.key_order.proofs.ListParts.{each-at}
 use Rattle.merkle_tree_theory.specs.Gap.{Gap, IsInGap, is_in_gap, pairs_within, part_before, part_behind}
 use Rattle.store_tree.specs.Cells.{bytes_order, KeyDigests, AreUnder, HasKey, IsBoundAt, IsGapOf, IsProper, pairs_from}
 use Rattle.store_tree.specs.Pages.{HasPair, gap_between}
+use Rattle.store_tree.proofs.FrontOrder.{map_rows}
 use Rattle.store_tree.proofs.Fronts.{Front}
 use Rattle.store_tree.proofs.Parts.{back_within, front_within, key_in}
 use Rattle.store_tree.proofs.Places.{swapped}
-use Rattle.store_tree.proofs.Touching.{map_rows}
 use Rattle.store_tree.proofs.Writing.{le_is, le_not}
 
 module _ (lev : List ℕ → ℕ) (m : KeyDigests) (up : IsMap bytes_order m) (l : ℕ) where
