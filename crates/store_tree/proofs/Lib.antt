@@ -3,6 +3,8 @@ pub mod Filling
 pub mod FrontOrder
 pub mod Fronts
 pub mod Listing
+pub mod Loaded
+pub mod Loading
 pub mod Members
 pub mod Noting
 pub mod Outlining

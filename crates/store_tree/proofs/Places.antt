@@ -203,5 +203,9 @@ module _ (rows : List Row) (sorted : IsIndex plain rows) (l : ℕ) (f : Front) w
         filter_insert (is_level l) (cell_row l f n) rows sorted (on_own l f n) (ties_level l f n) ∙ ap (insert_entry plain (cell_row l f n)) is
         ∙ insert_between (cell_row l f n) (map (row_at l known) bs) (map (row_at l known) back) (lower_rows l known f n bs low) (higher_rows l known f n back high)
 
+  -- the rows of its level are those with it put at its place
+  pub inserted_among : (n : Known) → rows_on l (insert_entry plain (cell_row l f n) rows) ≡ insert_entry plain (cell_row l f n) (rows_on l rows)
+  inserted_among n = filter_insert (is_level l) (cell_row l f n) rows sorted (on_own l f n) (ties_level l f n)
+
   pub inserted_other : (n : Known) (j : ℕ) → l ≢ j → rows_on j (insert_entry plain (cell_row l f n) rows) ≡ rows_on j rows
   inserted_other n j apart = filter_insert_other (is_level j) (cell_row l f n) rows (not_other l j f n apart)

@@ -57,12 +57,22 @@ top_is lev m rows h top is = by (less_or_more h.top top) is.there
         (let never : cell_row h.top None ((h.levels h.top (omega (arith, more)) (omega arith)).known None) ∷ _ ≡ [] = sym (h.levels h.top (omega (arith, more)) (omega arith)).fronts
         ∙ is.above h.top more in cc)
 
+-- a key under a level is set among pairs that are
+pub set_under : (lev : List ℕ → ℕ) (top : ℕ) (key d : List ℕ) (ps : KeyDigests) → AreUnder lev top ps → lev key < top → AreUnder lev top (set bytes_order ps key d)
+set_under lev top key d [] a low = (low, tt)
+set_under lev top key d (p ∷ ps) a low = by (bytes_order key p.0) (set_under lev top key d ps a.1 low)
+  where
+    by : (o : Ordering) → AreUnder lev top (set bytes_order ps key d) → AreUnder lev top (match_ordering o ((key, d) ∷ p ∷ ps) ((p.0, d) ∷ ps) (p ∷ set bytes_order ps key d))
+    by Less f = (low, a)
+    by Equal f = a
+    by Greater f = (a.0, f)
+
 -- a level above the others has one gap
 module _ (lev : List ℕ → ℕ) (m : KeyDigests) where
-  record HasGrown (top : ℕ) (rows : List Row) : Type 0 where
-    holds : HoldsCells lev m rows
-    top_is : holds.top ≡ top
-    in_order : IsIndex plain rows
+  pub record HasGrown (top : ℕ) (rows : List Row) : Type 0 where
+    pub holds : HoldsCells lev m rows
+    pub top_is : holds.top ≡ top
+    pub in_order : IsIndex plain rows
 
   one_level : (top : ℕ) (rows : List Row) → HasGrown top rows → HasGrown (suc top) (insert_entry plain (cell_row (suc top) None Unknown) rows)
   one_level top rows g =
@@ -115,7 +125,7 @@ module _ (lev : List ℕ → ℕ) (m : KeyDigests) where
           let low : l ≤ top = le_is l top e in
           level_stays lev m l rows new (inserted_other rows g.in_order (suc top) None Unknown l (λ same. omega (arith, same, low))) (g.holds.levels l from (omega (arith, low, g.top_is)))
 
-  grows : (top : ℕ) (rows : List Row) → HasGrown top rows → (n : ℕ) → HasGrown (top + n) (with_levels top n rows)
+  pub grows : (top : ℕ) (rows : List Row) → HasGrown top rows → (n : ℕ) → HasGrown (top + n) (with_levels top n rows)
   grows top rows g zero = subst (λ t. HasGrown t rows) (more top) g
     where
       more : (t : ℕ) → t ≡ t + 0
@@ -173,15 +183,6 @@ module _ (lev : List ℕ → ℕ) (m : KeyDigests) where
         }
     writes (suc upto) new low (rows, sooner, touches) = next_level upto rows new low (writes upto rows (omega (arith, low)) sooner) touches
 
-    set_under : (ps : KeyDigests) → AreUnder lev top ps → lev key < top → AreUnder lev top (set bytes_order ps key d)
-    set_under [] a low = (low, tt)
-    set_under (p ∷ ps) a low = by (bytes_order key p.0) (set_under ps a.1 low)
-      where
-        by : (o : Ordering) → AreUnder lev top (set bytes_order ps key d) → AreUnder lev top (match_ordering o ((key, d) ∷ p ∷ ps) ((p.0, d) ∷ ps) (p ∷ set bytes_order ps key d))
-        by Less f = (low, a)
-        by Equal f = a
-        by Greater f = (a.0, f)
-
     all_written : (new : List Row) → lev key < top → TouchesUpto key (lev key) top mid new → HoldsCells lev then_map new
     all_written new low touches =
         let w = writes top new (omega arith) touches in
@@ -189,7 +190,7 @@ module _ (lev : List ℕ → ℕ) (m : KeyDigests) where
           low = g.holds.low;
           ascending = ascending_set bytes_order nat_list_cmp_total m key d g.holds.ascending;
           top = top;
-          under = set_under m (subst (λ t. AreUnder lev t m) g.top_is g.holds.under) low;
+          under = set_under lev top key d m (subst (λ t. AreUnder lev t m) g.top_is g.holds.under) low;
           levels = w.done;
           others = λ l where_is. w.rest l where_is ∙ g.holds.others l (outside l where_is);
         }

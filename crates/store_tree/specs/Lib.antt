@@ -2,6 +2,7 @@ pub mod Calls
 pub mod Cells
 pub mod Faults
 pub mod Filling
+pub mod Loads
 pub mod Maps
 pub mod Outlines
 pub mod Overs

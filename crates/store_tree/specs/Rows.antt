@@ -91,3 +91,8 @@ with_front level key = insert_entry plain (cell_row level (Some key) Unknown)
 abbrev pub with_levels : ℕ → ℕ → List Row → List Row
 with_levels top zero rows = rows
 with_levels top (suc n) rows = insert_entry plain (cell_row (suc (top + n)) None Unknown) (with_levels top n rows)
+
+-- the rows with a gap above the key on each level up to one, of which nothing is known
+abbrev pub with_fronts : List ℕ → ℕ → List Row → List Row
+with_fronts key zero rows = rows
+with_fronts key (suc upto) rows = with_front (suc upto) key (with_fronts key upto rows)

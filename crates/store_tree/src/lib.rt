@@ -6,6 +6,7 @@ mod digest;
 pub mod fault;
 mod fill;
 pub mod laws;
+pub mod load;
 pub mod outline;
 pub mod over;
 mod page;

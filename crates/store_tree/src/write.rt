@@ -84,7 +84,7 @@ fn is_front(cell: &Cell, key: &String) -> bool
 }
 
 /// Begins a gap of a level above a key, where one is to begin.
-fn split<S: Store>(
+pub(crate) fn split<S: Store>(
     alloc: Global,
     trees: &mut S,
     level: u16,
@@ -123,7 +123,12 @@ fn touch<S: Store>(
 }
 
 /// Adds levels above one, up to another, each with one gap of which nothing is known.
-fn grow<S: Store>(alloc: Global, trees: &mut S, top: u16, upto: u16) -> Result<(), TreeFault>
+pub(crate) fn grow<S: Store>(
+    alloc: Global,
+    trees: &mut S,
+    top: u16,
+    upto: u16,
+) -> Result<(), TreeFault>
     requires table { HasTable S.Store trees.old }
     ensures grown { Makes S.Store trees.old trees.new result (λ old new. new TREE ≡ with_levels top (upto - top) (old TREE)) }
     ensures others { Makes S.Store trees.old trees.new result KeepsOthers }

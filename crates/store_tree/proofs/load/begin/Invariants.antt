@@ -1,0 +1,19 @@
+use Rattle.std.proofs.Common.{◌≡◌, ◌≤◌, ◌-◌, string_bytes}
+use Rattle.store_file.specs.Logs.{IsClean, trees_of}
+use Rattle.store_file.specs.Transactions.{CommitsNothing}
+use Rattle.store_tree.specs.Rows.{with_fronts}
+use Rattle.store_tree.specs.Tables.{KeepsOthers}
+use Rattle.store_tree.specs.declared.table.TheConstants.{CELLS}
+use Rattle.store_tree.proofs.load.begin.Given as goal
+
+abbrev pub invariant-levels : goal.invariant-levels
+invariant-levels g l =
+    let s = g.S.Store in record {
+      low : l.level ≤ l.fn.upto;
+      begun : IsClean s l.trees → trees_of s l.trees CELLS ≡ with_fronts (string_bytes l.fn.key) l.level (trees_of s l.fn.trees CELLS);
+      others : IsClean s l.trees → KeepsOthers (trees_of s l.fn.trees) (trees_of s l.trees);
+      uncommitted : CommitsNothing s l.fn.trees l.trees;
+    }
+
+abbrev pub decreases-levels : goal.decreases-levels
+decreases-levels g l = l.fn.upto - l.level
