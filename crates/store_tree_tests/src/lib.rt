@@ -2,5 +2,7 @@
 #![tactic(auto)]
 
 #[cfg(test)]
+mod loaded_maps;
+#[cfg(test)]
 mod random_maps;
 pub mod sorted_rows;

@@ -27,10 +27,10 @@ type Item<'a> = OutlineItem<'a, DIGEST_LEN, String>;
 
 /// A map three times: as a tree in memory, as rows, and as the gaps of its tree in a store.
 #[derive(Drop)]
-struct Sides {
-    tree: Tree,
-    rows: SortedRows,
-    store: MemStore,
+pub(crate) struct Sides {
+    pub tree: Tree,
+    pub rows: SortedRows,
+    pub store: MemStore,
 }
 
 /// A store in memory with three empty tables, of which the last is that of cells.
@@ -57,7 +57,7 @@ fn store(alloc: Global) -> Result<MemStore, AllocError> {
 }
 
 /// The empty map, whose tree has this level base.
-fn empty(alloc: Global, base: u8) -> Result<Sides, AllocError> {
+pub(crate) fn empty(alloc: Global, base: u8) -> Result<Sides, AllocError> {
     let base = NonZeroU8::new(base).ok_or(AllocError)?;
     let builder = Builder::default().with_level_base(base);
     Ok(Sides {
@@ -79,6 +79,19 @@ fn write_key(
     write(alloc, store, level, key)
 }
 
+/// The level of a key.
+pub(crate) fn level_of(tree: &Tree, key: &String) -> u8 {
+    level(&tree.key_digest(key), tree.level_base())
+}
+
+/// Sets a key to a value, in memory alone.
+pub(crate) fn set_in_memory(sides: &mut Sides, key: &String, value: u64) -> Result<(), Fail> {
+    let digest = ValueDigest::new(sides.tree.value_digest(&value));
+    sides.rows.set(key.clone()?, digest)?;
+    sides.tree.upsert(key.clone()?, &value)?;
+    Ok(())
+}
+
 /// Sets a key to a value, on all sides.
 fn set(
     rt: &impl Abort,
@@ -87,12 +100,9 @@ fn set(
     key: &String,
     value: u64,
 ) -> Result<(), Fail> {
-    let on = level(&sides.tree.key_digest(key), sides.tree.level_base());
-    let digest = ValueDigest::new(sides.tree.value_digest(&value));
+    let on = level_of(&sides.tree, key);
     write_key(rt, alloc, &mut sides.store, on, key)?;
-    sides.rows.set(key.clone()?, digest)?;
-    sides.tree.upsert(key.clone()?, &value)?;
-    Ok(())
+    set_in_memory(sides, key, value)
 }
 
 /// The digest of the root page, by the table of cells.
@@ -237,7 +247,11 @@ fn pages_below(
 }
 
 /// The number of pages, where the same is told of each on both sides; `None` where it isn't.
-fn pages_alike(rt: &impl Abort, alloc: Global, sides: &mut Sides) -> Result<Option<u64>, Fail> {
+pub(crate) fn pages_alike(
+    rt: &impl Abort,
+    alloc: Global,
+    sides: &mut Sides,
+) -> Result<Option<u64>, Fail> {
     let other = PageDigest::new([0; DIGEST_LEN]);
     let mut gaps = vec![in alloc; (None, None)]?;
     for count in 0..10_000 {
@@ -258,7 +272,7 @@ fn pages_alike(rt: &impl Abort, alloc: Global, sides: &mut Sides) -> Result<Opti
 }
 
 /// A key by its number.
-fn key_of(alloc: Global, number: u64) -> Result<String, AllocError> {
+pub(crate) fn key_of(alloc: Global, number: u64) -> Result<String, AllocError> {
     format!(in alloc; "key {number}")
 }
 
@@ -271,7 +285,7 @@ fn bound(alloc: Global, random: &mut Random, keys: u64) -> Result<Option<String>
 }
 
 /// Writes random keys, this many times, and compares both sides after each write: sometimes the root, and what is over a random gap.
-fn write_at_random(
+pub(crate) fn write_at_random(
     rt: &impl Abort,
     alloc: Global,
     sides: &mut Sides,
@@ -293,7 +307,7 @@ fn write_at_random(
 }
 
 /// The level bases: where it is small, few keys have several levels.
-const BASES: [u8; 3] = [1, 2, 16];
+pub(crate) const BASES: [u8; 3] = [1, 2, 16];
 
 #[test]
 fn an_empty_table_tells_of_nothing(rt: HostRuntime) -> Result<(), Fail> {

@@ -29,6 +29,11 @@ impl SortedRows {
         }
     }
 
+    /// The rows.
+    pub fn rows(&self) -> &[Row] {
+        &self.rows
+    }
+
     /// Where a key stands, or is to stand.
     fn place(&self, key: &String) -> usize
         ensures { result ≤ length self.now.rows.items }
