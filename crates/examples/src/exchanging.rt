@@ -44,9 +44,10 @@ pub fn exchange_by_trees<
 ) -> Result<Next<K, V>, ExchangeError<R::Error, T::Error>>
     requires asks { message.now ≡ question_bytes K.encoding session.asked }
     requires digests { AreDigestsOf H.laws (digests_of peer.old) (R.rows rows.now) }
-    ensures exchanged { IfOk result (IsExchangeOf H.laws N K.encoding V.encoding (T.kept local.old).digests
+    ensures exchanged { T.is_sound local.new → IfOk result (IsExchangeOf H.laws N K.encoding V.encoding (T.kept local.old)
         (side_of (digests_of peer.old) (R.rows rows.now)) session) }
-    ensures kept { T.kept local.new ≡ T.kept local.old }
+    ensures kept { T.is_sound local.new → T.kept local.new ≡ T.kept local.old }
+    ensures steady { T.is_sound local.new → T.is_sound local.old }
     ensures peer_map { map_of peer.new ≡ map_of peer.old }
     ensures peer_settings { SameSettings peer.old peer.new }
 {

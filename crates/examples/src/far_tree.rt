@@ -1,5 +1,5 @@
 //! A tree of digests that may be out of reach, beside rows on a shelf.
-ghost use Rattle.std.specs.Prelude.{◌≡◌, None};
+ghost use Rattle.std.specs.Prelude.{◌≡◌, None, ⊤};
 ghost use Rattle.merkle_wire.specs.ItsRows.{digests_of};
 
 use crate::shelf::{Shelf, ShelfError};
@@ -87,6 +87,8 @@ impl<const N: usize, K: Key + Drop, V: Join + Drop, H: RowHasher<N, K, V>> KeptT
 
     ghost kept = { λ far. record { digests = digests_of far; rows = None } };
 
+    ghost is_sound = { λ _. ⊤ };
+
     fn level_base(&self) -> NonZeroU8 {
         self.tree.level_base()
     }
@@ -135,6 +137,8 @@ impl<
     type Error = FarError;
 
     ghost contents = { λ far shelf. record { rows = shelf; tree = far } };
+
+    ghost is_sound = { λ _. ⊤ };
 
     fn has_settings(&self, shelf: &Shelf<K, V>, settings: &Settings<K>) -> bool {
         self.tree.has_settings(shelf, settings)

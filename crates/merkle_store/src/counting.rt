@@ -77,6 +77,8 @@ impl<
 
     ghost contents = { S.contents };
 
+    ghost is_sound = { S.is_sound };
+
     fn has_settings(&self, beside: &R, settings: &Settings<K>) -> bool {
         self.side.has_settings(beside, settings)
     }

@@ -1,10 +1,10 @@
 //! The answering side: a reply to a message, with nothing kept between messages.
-ghost use Rattle.std.specs.Prelude.{◌≡◌, false, IsSome, IsTrue, IfOk, IfErr, IfSome, Some, length};
+ghost use Rattle.std.specs.Prelude.{◌≡◌, false, IsSome, IsTrue, IfOk, IfErr, IfSome, Some};
 ghost use Rattle.merkle_tree_theory.specs.State.{SameSettings, map_of};
 ghost use Rattle.merkle_wire.specs.Faults.{IsUnread, OfMessage, answer_error_text, AreOtherSettings};
 ghost use Rattle.merkle_wire.specs.Questions.{AsksNothing};
-ghost use Rattle.merkle_wire.specs.Replies.{EndsWithin, IsAnsweredBy, IsAnsweredWithin, AsksWithOthers, root_reply_bytes, root_page_digest, IsReply};
-ghost use Rattle.merkle_wire.specs.Replies.{TellsSettings};
+ghost use Rattle.merkle_wire.specs.Replies.{EndsWithin, IsAnsweredBy, IsAnsweredWithin, AsksWithOthers, IsReply, TellsSettings};
+ghost use Rattle.merkle_wire.specs.Tellings.{IsAnsweredOf, IsReplyOfSide, TellsRoot};
 
 use crate::kept_side::KeptSide;
 use crate::message::{Kind, begin};
@@ -172,15 +172,16 @@ pub fn answer_by<
     message: &[u8],
     most_bytes: usize,
 ) -> Result<Vec<u8>, KeptError<S::Error>>
-    ensures answered { IfOk result (IsAnsweredBy H.laws N K.encoding V.encoding (S.contents side.old beside.now).rows (S.contents side.new beside.now).tree
-        message.now) }
-    ensures within { IfOk result (IsAnsweredWithin K.encoding V.encoding most_bytes message.now) }
+    ensures answered { S.is_sound side.new → IfOk result (IsAnsweredOf H.laws N K.encoding V.encoding (S.contents side.old beside.now)
+        (S.contents side.new beside.now) message.now) }
+    ensures within { S.is_sound side.new → IfOk result (IsAnsweredWithin K.encoding V.encoding most_bytes message.now) }
     ensures malformed { IfErr result (OfMessage (λ error. IsUnread error → AsksNothing K.encoding K.is_value message.now)) }
     ensures other_settings { IfErr result (OfMessage (λ error. AreOtherSettings error
         → AsksWithOthers H.laws N K.encoding (S.contents side.new beside.now).tree message.now)) }
-    ensures rows { (S.contents side.new beside.now).rows ≡ (S.contents side.old beside.now).rows }
-    ensures map { map_of (S.contents side.new beside.now).tree ≡ map_of (S.contents side.old beside.now).tree }
-    ensures settings { SameSettings (S.contents side.old beside.now).tree (S.contents side.new beside.now).tree }
+    ensures rows { S.is_sound side.new → (S.contents side.new beside.now).rows ≡ (S.contents side.old beside.now).rows }
+    ensures map { S.is_sound side.new → map_of (S.contents side.new beside.now).tree ≡ map_of (S.contents side.old beside.now).tree }
+    ensures settings { S.is_sound side.new → SameSettings (S.contents side.old beside.now).tree (S.contents side.new beside.now).tree }
+    ensures steady { S.is_sound side.new → S.is_sound side.old }
 {
     if let Err(error) = side.hash(beside) {
         return Err(KeptError::Kept(error));
@@ -230,13 +231,13 @@ fn reply_to<
     question: &Question<K>,
     most_bytes: usize,
 ) -> Result<Vec<u8>, KeptError<S::Error>>
-    requires hashed { IsSome (S.contents side.old beside.now).tree.root_hash }
-    ensures reply { IfOk result (λ told. IsReply H.laws N K.encoding V.encoding (S.contents side.old beside.now).rows
-        (S.contents side.old beside.now).tree question.now told.items) }
-    ensures within { IfOk result (λ reply. EndsWithin K.encoding V.encoding most_bytes question.now reply.items) }
+    requires hashed { S.is_sound side.old → IsSome (S.contents side.old beside.now).tree.root_hash }
+    ensures reply { S.is_sound side.new → IfOk result (IsReplyOfSide H.laws N K.encoding V.encoding (S.contents side.old beside.now) question.now) }
+    ensures within { S.is_sound side.new → IfOk result (λ reply. EndsWithin K.encoding V.encoding most_bytes question.now reply.items) }
     ensures read { IfErr result (OfMessage (λ error. ¬ IsUnread error)) }
-    ensures others { IfErr result (OfMessage (λ error. AreOtherSettings error → ¬ TellsSettings H.laws N (S.contents side.old beside.now).tree question.now)) }
-    ensures kept { S.contents side.new beside.now ≡ S.contents side.old beside.now }
+    ensures others { IfErr result (OfMessage (λ error. AreOtherSettings error → ¬ TellsSettings H.laws N (S.contents side.new beside.now).tree question.now)) }
+    ensures kept { S.is_sound side.new → S.contents side.new beside.now ≡ S.contents side.old beside.now }
+    ensures steady { S.is_sound side.new → S.is_sound side.old }
 {
     if !tells_settings(side, beside, question) {
         return Err(KeptError::Answer(AnswerError::OtherSettings));
@@ -283,12 +284,12 @@ fn tell<
     question: &Question<K>,
     most_bytes: usize,
 ) -> Result<Vec<u8>, S::Error>
-    requires hashed { IsSome (S.contents side.old beside.now).tree.root_hash }
+    requires hashed { S.is_sound side.old → IsSome (S.contents side.old beside.now).tree.root_hash }
     requires settings { TellsSettings H.laws N (S.contents side.old beside.now).tree question.now }
-    ensures reply { IfOk result (λ told. IsReply H.laws N K.encoding V.encoding (S.contents side.old beside.now).rows
-        (S.contents side.old beside.now).tree question.now told.items) }
-    ensures within { IfOk result (λ reply. EndsWithin K.encoding V.encoding most_bytes question.now reply.items) }
-    ensures kept { S.contents side.new beside.now ≡ S.contents side.old beside.now }
+    ensures reply { S.is_sound side.new → IfOk result (IsReplyOfSide H.laws N K.encoding V.encoding (S.contents side.old beside.now) question.now) }
+    ensures within { S.is_sound side.new → IfOk result (λ reply. EndsWithin K.encoding V.encoding most_bytes question.now reply.items) }
+    ensures kept { S.is_sound side.new → S.contents side.new beside.now ≡ S.contents side.old beside.now }
+    ensures steady { S.is_sound side.new → S.is_sound side.old }
 {
     match question {
         Question::Root(_) => tell_root(alloc, side, beside),
@@ -328,10 +329,10 @@ fn tell_root<
     R,
     const N: usize,
 >(alloc: Global, side: &mut S, beside: &R) -> Result<Vec<u8>, S::Error>
-    requires hashed { IsSome (S.contents side.old beside.now).tree.root_hash }
-    ensures told { IfOk result (λ r. r.items ≡ root_reply_bytes (length (S.contents side.old beside.now).rows)
-        (root_page_digest K.bytes_of (S.contents side.old beside.now).tree)) }
-    ensures kept { S.contents side.new beside.now ≡ S.contents side.old beside.now }
+    requires hashed { S.is_sound side.old → IsSome (S.contents side.old beside.now).tree.root_hash }
+    ensures told { S.is_sound side.new → IfOk result (TellsRoot K.bytes_of (S.contents side.old beside.now)) }
+    ensures kept { S.is_sound side.new → S.contents side.new beside.now ≡ S.contents side.old beside.now }
+    ensures steady { S.is_sound side.new → S.is_sound side.old }
 {
     let count = side.count(beside)?;
     let digest = side.root_digest(beside)?;

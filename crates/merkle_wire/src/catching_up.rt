@@ -2,7 +2,7 @@
 ghost use Rattle.std.specs.Prelude.{◌≡◌, ◌≤◌, IfOk, IfErr, IfSome, length, ℕ, ◌⊎◌};
 ghost use Rattle.merkle_replica.specs.Contents.{side};
 ghost use Rattle.merkle_tree_theory.specs.State.{SameSettings};
-ghost use Rattle.merkle_wire.specs.Faults.{OfSession};
+ghost use Rattle.merkle_wire.specs.ByDigests.{IsStoppedBy};
 ghost use Rattle.merkle_wire.specs.Underway.{nothing};
 ghost use Rattle.merkle_wire.specs.ItsRows.{ForRowsOf, digests_of};
 ghost use Rattle.merkle_wire.specs.Limits.{Allows};
@@ -141,15 +141,17 @@ impl<K: Key + Decode, V: Join + Decode> CatchingUp<K, V> {
         alloc: Global,
         tree: &mut T,
     ) -> Result<(Self, Vec<u8>), T::Error>
-        ensures settings { IfOk result (λ begun. AsksForRoot ⟦<H as Hasher<N, K>>⟧.digest_of N
+        ensures settings { T.is_sound tree.new → IfOk result (λ begun. AsksForRoot ⟦<H as Hasher<N, K>>⟧.digest_of N
             (T.kept tree.old).digests begun.0.asked) }
         ensures asks { IfOk result (λ begun. begun.1.items ≡ question_bytes K.encoding begun.0.asked) }
 
         // Whatever rows the tree has the digests of, the key that is told is one of theirs.
-        ensures keys { IfOk result (λ begun. ForRowsOf H.laws (T.kept tree.old).digests (λ local. IsQuestion (IsKeyOf K.cmp local.rows) begun.0.asked)) }
+        ensures keys { T.is_sound tree.new → IfOk result (λ begun. ForRowsOf H.laws (T.kept tree.old).digests
+            (λ local. IsQuestion (IsKeyOf K.cmp local.rows) begun.0.asked)) }
 
         ensures nothing { IfOk result (λ begun. (begun.0.found ≡ nothing) × (begun.0.rounds ≡ 0)) }
-        ensures kept { T.kept tree.new ≡ T.kept tree.old }
+        ensures kept { T.is_sound tree.new → T.kept tree.new ≡ T.kept tree.old }
+        ensures steady { T.is_sound tree.new → T.is_sound tree.old }
     {
         let settings = settings_by(alloc, tree)?;
         Ok(begin(alloc, settings)?)
@@ -255,14 +257,15 @@ impl<K: Key + Decode, V: Join + Decode> CatchingUp<K, V> {
         reply: &[u8],
     ) -> Result<Next<K, V>, TakeError<T::Error>>
         // Whatever rows the tree has the digests of, it is what a replica with them makes of the reply.
-        ensures next { IfOk result (λ next. ForRowsOf H.laws (T.kept tree.old).digests
-            (λ local. IsNext H.laws N K.encoding V.encoding local self reply.now next)) }
+        ensures next { T.is_sound tree.new → IfOk result (λ next. ForRowsOf H.laws (T.kept tree.old).digests
+            (λ own. IsNext H.laws N K.encoding V.encoding own self reply.now next)) }
         ensures few { IfOk result (IfAsks (λ session. session.rounds ≤ 256)) }
         ensures limits { IfOk result (StaysWithin self (length reply.now)) }
-        ensures asked_for { IfOk result (λ next. ForRowsOf H.laws (T.kept tree.old).digests (λ local. OnlyAskedFor K.cmp self next)) }
-        ensures ended { IfErr result (OfSession H.laws (T.kept tree.old).digests
-            (λ local. IsStopped H.laws N K.encoding V.encoding K.is_value V.is_value local self reply.now)) }
-        ensures kept { T.kept tree.new ≡ T.kept tree.old }
+        ensures asked_for { T.is_sound tree.new → IfOk result (λ next. ForRowsOf H.laws (T.kept tree.old).digests (λ local. OnlyAskedFor K.cmp self next)) }
+        ensures ended { T.is_sound tree.new → IfErr result (IsStoppedBy H.laws (T.kept tree.old).digests N K.encoding V.encoding
+            K.is_value V.is_value self reply.now) }
+        ensures kept { T.is_sound tree.new → T.kept tree.new ≡ T.kept tree.old }
+        ensures steady { T.is_sound tree.new → T.is_sound tree.old }
     {
         let CatchingUp {
             alloc,

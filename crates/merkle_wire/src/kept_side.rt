@@ -1,5 +1,5 @@
 //! Sides that answer, with their trees and rows kept anywhere.
-ghost use Rattle.std.specs.Prelude.{◌≡◌, ◌↔◌, IfOk, OnOk, IsSome, IsTrue, length};
+ghost use Rattle.std.specs.Prelude.{◌≡◌, ◌↔◌, IfOk, OnOk, IsSome, IsTrue, length, ⊤};
 ghost use Rattle.merkle_replica.specs.Contents.{Contents};
 ghost use Rattle.merkle_tree_theory.specs.State.{SameSettings, map_of};
 ghost use Rattle.merkle_wire.specs.Replies.{root_page_digest};
@@ -21,7 +21,8 @@ use std::alloc::{AllocError, Global};
 /// are kept elsewhere ([`KeptRows`]) is one too.
 ///
 /// Each call takes the rows where these stand beside the tree, and `()` where the side has them itself. What is asked of a side changes nothing of what
-/// it keeps. A call may fail, for example to read a disk, and the message is then not answered.
+/// it keeps. A call may fail, for example to read a disk, and the message is then not answered. What a call says of what is kept, it says if the side is
+/// sound after it (`is_sound`).
 pub trait KeptSide<const N: usize, K: Key + Encode, V: Join + Encode, H: RowHasher<N, K, V>, R> {
     /// Why the tree or the rows can't be read: out of memory, or a reason of where they are kept.
     type Error: From<AllocError> + Drop;
@@ -29,27 +30,33 @@ pub trait KeptSide<const N: usize, K: Key + Encode, V: Join + Encode, H: RowHash
     /// The rows, in ascending key order, and the tree.
     ghost contents: { Self → R → Contents K V H };
 
+    /// Whether what it has told so far is what is kept: of a file, that the disk gave back what was written. In memory it always is.
+    ghost is_sound: { Self → Type 0 };
+
     /// Whether these are the settings of the tree.
     fn has_settings(&self, beside: &R, settings: &Settings<K>) -> bool
         ensures { IsTrue result ↔ AreSettingsBy ⟦<H as Hasher<N, K>>⟧.digest_of N (digests_of (contents self.now beside.now).tree) settings.now };
 
     /// Gives a digest to each page that lacks one. It comes before the calls below that tell of pages.
     fn hash(&mut self, beside: &R) -> Result<(), Self::Error>
-        ensures hashed { OnOk result (IsSome (contents self.new beside.now).tree.root_hash) }
-        ensures map { map_of (contents self.new beside.now).tree ≡ map_of (contents self.old beside.now).tree }
-        ensures settings { SameSettings (contents self.old beside.now).tree (contents self.new beside.now).tree }
-        ensures rows { (contents self.new beside.now).rows ≡ (contents self.old beside.now).rows };
+        ensures hashed { is_sound self.new → OnOk result (IsSome (contents self.new beside.now).tree.root_hash) }
+        ensures map { is_sound self.new → map_of (contents self.new beside.now).tree ≡ map_of (contents self.old beside.now).tree }
+        ensures settings { is_sound self.new → SameSettings (contents self.old beside.now).tree (contents self.new beside.now).tree }
+        ensures rows { is_sound self.new → (contents self.new beside.now).rows ≡ (contents self.old beside.now).rows }
+        ensures steady { is_sound self.new → is_sound self.old };
 
     /// How many rows there are.
     fn count(&mut self, beside: &R) -> Result<u64, Self::Error>
-        ensures count { IfOk result (λ count. count ≡ length (contents self.old beside.now).rows) }
-        ensures kept { contents self.new beside.now ≡ contents self.old beside.now };
+        ensures count { is_sound self.new → IfOk result (λ count. count ≡ length (contents self.old beside.now).rows) }
+        ensures kept { is_sound self.new → contents self.new beside.now ≡ contents self.old beside.now }
+        ensures steady { is_sound self.new → is_sound self.old };
 
     /// The digest of the root page, where there is a row.
     fn root_digest(&mut self, beside: &R) -> Result<Option<PageDigest>, Self::Error>
-        requires hashed { IsSome (contents self.old beside.now).tree.root_hash }
-        ensures digest { IfOk result (λ digest. digest ≡ root_page_digest K.bytes_of (contents self.old beside.now).tree) }
-        ensures kept { contents self.new beside.now ≡ contents self.old beside.now };
+        requires hashed { is_sound self.old → IsSome (contents self.old beside.now).tree.root_hash }
+        ensures digest { is_sound self.new → IfOk result (λ digest. digest ≡ root_page_digest K.bytes_of (contents self.old beside.now).tree) }
+        ensures kept { is_sound self.new → contents self.new beside.now ≡ contents self.old beside.now }
+        ensures steady { is_sound self.new → is_sound self.old };
 
     /// Adds what is told of the page over a gap. [`tell_outline`] does it by the items of that page.
     fn tell_page(
@@ -60,14 +67,17 @@ pub trait KeptSide<const N: usize, K: Key + Encode, V: Join + Encode, H: RowHash
         gap: &OwnedGap<K>,
         bytes: &mut Vec<u8>,
     ) -> Result<(), Self::Error>
-        requires hashed { IsSome (contents self.old beside.now).tree.root_hash }
-        ensures told { OnOk result (TellsPage K.cmp K.bytes_of K.encoding V.encoding (contents self.old beside.now) telling gap.now bytes.old bytes.new) }
-        ensures kept { contents self.new beside.now ≡ contents self.old beside.now };
+        requires hashed { is_sound self.old → IsSome (contents self.old beside.now).tree.root_hash }
+        ensures told { is_sound self.new → OnOk result (TellsPage K.cmp K.bytes_of K.encoding V.encoding (contents self.old beside.now) telling gap.now
+            bytes.old bytes.new) }
+        ensures kept { is_sound self.new → contents self.new beside.now ≡ contents self.old beside.now }
+        ensures steady { is_sound self.new → is_sound self.old };
 
     /// Adds the bytes of the value at a key, where there is one, and returns whether there is.
     fn add_value(&mut self, beside: &R, key: &K, bytes: &mut Vec<u8>) -> Result<bool, Self::Error>
-        ensures value { IfOk result (AddsValueAt K.cmp V.encoding (contents self.old beside.now).rows key.now bytes.old bytes.new) }
-        ensures kept { contents self.new beside.now ≡ contents self.old beside.now };
+        ensures value { is_sound self.new → IfOk result (AddsValueAt K.cmp V.encoding (contents self.old beside.now).rows key.now bytes.old bytes.new) }
+        ensures kept { is_sound self.new → contents self.new beside.now ≡ contents self.old beside.now }
+        ensures steady { is_sound self.new → is_sound self.old };
 
     /// Adds the rows in a gap, or the first of them, as [`KeptRows::add_part`] says.
     fn add_part(
@@ -77,8 +87,10 @@ pub trait KeptSide<const N: usize, K: Key + Encode, V: Join + Encode, H: RowHash
         gap: &OwnedGap<K>,
         bytes: &mut Vec<u8>,
     ) -> Result<(), Self::Error>
-        ensures part { OnOk result (TellsPart K.cmp K.encoding V.encoding (contents self.old beside.now).rows most_bytes gap.now bytes.old bytes.new) }
-        ensures kept { contents self.new beside.now ≡ contents self.old beside.now };
+        ensures part { is_sound self.new → OnOk result (TellsPart K.cmp K.encoding V.encoding (contents self.old beside.now).rows most_bytes gap.now
+            bytes.old bytes.new) }
+        ensures kept { is_sound self.new → contents self.new beside.now ≡ contents self.old beside.now }
+        ensures steady { is_sound self.new → is_sound self.old };
 }
 
 /// A tree in memory, beside rows that are kept anywhere.
@@ -92,6 +104,8 @@ impl<
     type Error = R::Error;
 
     ghost contents = { λ tree rows. record { rows = R.rows rows; tree = tree } };
+
+    ghost is_sound = { λ _. ⊤ };
 
     fn has_settings(&self, _beside: &R, settings: &Settings<K>) -> bool {
         agree(self, settings)
@@ -146,6 +160,8 @@ impl<
     type Error = AllocError;
 
     ghost contents = { λ replica _. replica };
+
+    ghost is_sound = { λ _. ⊤ };
 
     fn has_settings(&self, _beside: &(), settings: &Settings<K>) -> bool {
         agree(self.tree(), settings)

@@ -1,5 +1,5 @@
 //! Trees of digests that are kept anywhere: in memory, in a file.
-ghost use Rattle.std.specs.Prelude.{◌≡◌, false, IfOk, IsSome, IsTrue, None, Some};
+ghost use Rattle.std.specs.Prelude.{◌≡◌, false, IfOk, IsSome, IsTrue, None, Some, ⊤};
 ghost use Rattle.std.specs.Int.NonZero.{non_zero_u8_get};
 ghost use Rattle.key_order.specs.Map.{get};
 ghost use Rattle.merkle_bytes.specs.Options.{IsOption};
@@ -22,13 +22,17 @@ use std::num::NonZeroU8;
 
 /// The tree of digests of the asking side, wherever it is kept. [`MerkleSearchTree`] is one in memory, and [`Replica`] is one with its rows.
 ///
-/// What is asked of it changes nothing of what the side keeps. A call may fail, for example to read a disk, and the catch-up then ends.
+/// What is asked of it changes nothing of what the side keeps. A call may fail, for example to read a disk, and the catch-up then ends. What a call says
+/// of what is kept, it says if the tree is sound after it (`is_sound`).
 pub trait KeptTree<const N: usize, K: Key, V: Join, H: RowHasher<N, K, V>> {
     /// Why the tree can't be read: out of memory, or a reason of where it is kept.
     type Error: From<AllocError> + Drop;
 
     /// The digests of which it is the tree, and the rows, where they are at hand.
     ghost kept: { Self → Kept K V H };
+
+    /// Whether what it has told so far is what is kept: of a file, that the disk gave back what was written. In memory it always is.
+    ghost is_sound: { Self → Type 0 };
 
     /// The level base.
     fn level_base(&self) -> NonZeroU8
@@ -48,20 +52,24 @@ pub trait KeptTree<const N: usize, K: Key, V: Join, H: RowHasher<N, K, V>> {
 
     /// A key of the tree, if it has one.
     fn some_key(&mut self) -> Result<Option<K>, Self::Error>
-        ensures key { IfOk result (IsOption (IsKeyOf K.cmp (kept self.old).digests.map)) }
-        ensures kept { kept self.new ≡ kept self.old };
+        ensures key { is_sound self.new → IfOk result (IsOption (IsKeyOf K.cmp (kept self.old).digests.map)) }
+        ensures kept { is_sound self.new → kept self.new ≡ kept self.old }
+        ensures steady { is_sound self.new → is_sound self.old };
 
     /// The digest of the value at a key, if the tree has the key.
     fn digest_at(&mut self, key: &K) -> Result<Option<ValueDigest<N>>, Self::Error>
-        ensures digest { IfOk result (λ found. found ≡ get K.cmp (kept self.old).digests.map key.now) }
-        ensures kept { kept self.new ≡ kept self.old };
+        ensures digest { is_sound self.new → IfOk result (λ found. found ≡ get K.cmp (kept self.old).digests.map key.now) }
+        ensures kept { is_sound self.new → kept self.new ≡ kept self.old }
+        ensures steady { is_sound self.new → is_sound self.old };
 
     /// Whether the page that fills the gap has this digest. If no page fills it, another page may have the digest: the answer is true only if one does.
     fn is_page(&mut self, gap: &Gap<'_, K>, digest: &PageDigest) -> Result<bool, Self::Error>
-        ensures there { IfOk result (λ is. IsTrue is → ForRowsOf H.laws (kept self.old).digests (λ local. HasPage H.laws local digest.now)) }
-        ensures lacked { IfOk result (λ is. is ≡ false → ForRowsOf H.laws (kept self.old).digests
+        ensures there { is_sound self.new → IfOk result (λ is. IsTrue is → ForRowsOf H.laws (kept self.old).digests
+            (λ local. HasPage H.laws local digest.now)) }
+        ensures lacked { is_sound self.new → IfOk result (λ is. is ≡ false → ForRowsOf H.laws (kept self.old).digests
             (λ local. ¬ HasPageAt H.laws local (lent_gap gap.now) digest.now)) }
-        ensures kept { kept self.new ≡ kept self.old };
+        ensures kept { is_sound self.new → kept self.new ≡ kept self.old }
+        ensures steady { is_sound self.new → is_sound self.old };
 }
 
 /// A tree in memory. It is looked down one path, and pages that lack a digest get one.
@@ -70,6 +78,8 @@ impl<const N: usize, K: Key + Drop, V: Join + Drop, H: RowHasher<N, K, V>> KeptT
     type Error = AllocError;
 
     ghost kept = { λ tree. record { digests = digests_of tree; rows = None } };
+
+    ghost is_sound = { λ _. ⊤ };
 
     fn level_base(&self) -> NonZeroU8 {
         MerkleSearchTree::level_base(self)
@@ -110,6 +120,8 @@ impl<const N: usize, K: Key + Drop, V: Join + Drop, H: RowHasher<N, K, V>> KeptT
     type Error = AllocError;
 
     ghost kept = { λ replica. record { digests = digests_of replica.tree; rows = Some replica.rows } };
+
+    ghost is_sound = { λ _. ⊤ };
 
     fn level_base(&self) -> NonZeroU8 {
         self.tree().level_base()

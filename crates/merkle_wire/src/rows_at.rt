@@ -4,7 +4,8 @@ ghost use Rattle.key_order.specs.Map.{get};
 ghost use Rattle.merkle_bytes.specs.Encodings.{AddsBytes};
 ghost use Rattle.merkle_bytes.specs.Options.{option_bytes};
 ghost use Rattle.merkle_wire.specs.Messages.{front};
-ghost use Rattle.merkle_wire.specs.Replies.{AnswersFirst, value_at_bytes, TellsWhatFits};
+ghost use Rattle.merkle_wire.specs.Replies.{value_at_bytes, TellsWhatFits};
+ghost use Rattle.merkle_wire.specs.Tellings.{TellsValues};
 
 use crate::kept_side::KeptSide;
 use crate::message::{Kind, begin};
@@ -30,10 +31,10 @@ pub(crate) fn tell_values<
     most_bytes: usize,
     keys: &[Wanted<K>],
 ) -> Result<Vec<u8>, S::Error>
-    ensures told { IfOk result (λ r. AnswersFirst Kind.RowsAt (value_at_bytes V.encoding)
-        (λ w v. v ≡ get K.cmp (S.contents side.old beside.now).rows w.key) keys.now r.items) }
-    ensures kept { S.contents side.new beside.now ≡ S.contents side.old beside.now }
-    ensures fits { IfOk result (λ reply. TellsWhatFits (value_at_bytes V.encoding) (λ bytes t. ⊤)
+    ensures told { S.is_sound side.new → IfOk result (TellsValues K.cmp V.encoding (S.contents side.old beside.now).rows keys.now) }
+    ensures kept { S.is_sound side.new → S.contents side.new beside.now ≡ S.contents side.old beside.now }
+    ensures steady { S.is_sound side.new → S.is_sound side.old }
+    ensures fits { S.is_sound side.new → IfOk result (λ reply. TellsWhatFits (value_at_bytes V.encoding) (λ bytes t. ⊤)
         most_bytes keys.now (front Kind.RowsAt) reply.items) }
 {
     let mut bytes = begin(alloc, Kind::RowsAt)?;
@@ -55,8 +56,10 @@ fn tell_value<
     R,
     const N: usize,
 >(alloc: Global, side: &mut S, beside: &R, key: &K, bytes: &mut Vec<u8>) -> Result<(), S::Error>
-    ensures told { OnOk result (AddsBytes bytes.old (option_bytes V.encoding (get K.cmp (S.contents side.old beside.now).rows key.now)) bytes.new) }
-    ensures kept { S.contents side.new beside.now ≡ S.contents side.old beside.now }
+    ensures told { S.is_sound side.new → OnOk result (AddsBytes bytes.old
+        (option_bytes V.encoding (get K.cmp (S.contents side.old beside.now).rows key.now)) bytes.new) }
+    ensures kept { S.is_sound side.new → S.contents side.new beside.now ≡ S.contents side.old beside.now }
+    ensures steady { S.is_sound side.new → S.is_sound side.old }
 {
     let mut value = Vec::new(alloc);
     if side.add_value(beside, key, &mut value)? {

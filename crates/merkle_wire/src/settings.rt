@@ -129,9 +129,10 @@ pub(crate) fn settings_by<
     T: KeptTree<N, K, V, H>,
     const N: usize,
 >(alloc: Global, tree: &mut T) -> Result<Settings<K>, T::Error>
-    ensures settings { IfOk result (AreSettingsBy ⟦<H as Hasher<N, K>>⟧.digest_of N (T.kept tree.old).digests) }
-    ensures keys { IfOk result (AreSettings (IsKeyOf K.cmp (T.kept tree.old).digests.map)) }
-    ensures kept { T.kept tree.new ≡ T.kept tree.old }
+    ensures settings { T.is_sound tree.new → IfOk result (AreSettingsBy ⟦<H as Hasher<N, K>>⟧.digest_of N (T.kept tree.old).digests) }
+    ensures keys { T.is_sound tree.new → IfOk result (AreSettings (IsKeyOf K.cmp (T.kept tree.old).digests.map)) }
+    ensures kept { T.is_sound tree.new → T.kept tree.new ≡ T.kept tree.old }
+    ensures steady { T.is_sound tree.new → T.is_sound tree.old }
 {
     let sample = sample_by(alloc, tree)?;
     Ok(Settings {
@@ -150,9 +151,10 @@ fn sample_by<
     T: KeptTree<N, K, V, H>,
     const N: usize,
 >(alloc: Global, tree: &mut T) -> Result<Option<(K, Vec<u8>)>, T::Error>
-    ensures digested { IfOk result (IsDigested (⟦<H as Hasher<N, K>>⟧.digest_of (T.kept tree.old).digests.hasher)) }
-    ensures own { IfOk result (IsOption (λ sample. IsKeyOf K.cmp (T.kept tree.old).digests.map sample.0)) }
-    ensures kept { T.kept tree.new ≡ T.kept tree.old }
+    ensures digested { T.is_sound tree.new → IfOk result (IsDigested (⟦<H as Hasher<N, K>>⟧.digest_of (T.kept tree.old).digests.hasher)) }
+    ensures own { T.is_sound tree.new → IfOk result (IsOption (λ sample. IsKeyOf K.cmp (T.kept tree.old).digests.map sample.0)) }
+    ensures kept { T.is_sound tree.new → T.kept tree.new ≡ T.kept tree.old }
+    ensures steady { T.is_sound tree.new → T.is_sound tree.old }
 {
     let Some(key) = tree.some_key()? else {
         return Ok(None);

@@ -1,5 +1,6 @@
 //! Whether what came is there already, by a tree of digests.
 ghost use Rattle.std.specs.Prelude.{◌≡◌, false, IfOk, IsTrue};
+ghost use Rattle.merkle_wire.specs.ByDigests.{SaysIfThere};
 ghost use Rattle.merkle_wire.specs.ItsRows.{ForRowsOf};
 ghost use Rattle.merkle_wire.specs.Steps.{below_keys};
 ghost use Rattle.merkle_wire.specs.Taking.{HasNodes, has_digest, is_digest};
@@ -27,8 +28,10 @@ pub(crate) fn has_digest<
     T: KeptTree<N, K, V, H>,
     const N: usize,
 >(tree: &mut T, key: &K, digest: &[u8]) -> Result<bool, T::Error>
-    ensures has { IfOk result (λ has. ForRowsOf H.laws (T.kept tree.old).digests (λ local. has ≡ has_digest H.laws local key.now digest.now)) }
-    ensures kept { T.kept tree.new ≡ T.kept tree.old }
+    ensures has { T.is_sound tree.new → IfOk result (λ has. ForRowsOf H.laws (T.kept tree.old).digests
+        (λ local. has ≡ has_digest H.laws local key.now digest.now)) }
+    ensures kept { T.is_sound tree.new → T.kept tree.new ≡ T.kept tree.old }
+    ensures steady { T.is_sound tree.new → T.is_sound tree.old }
 {
     let own = tree.digest_at(key)?;
     Ok(is_digest(&own, digest))
@@ -42,9 +45,9 @@ pub(crate) fn has_value<
     T: KeptTree<N, K, V, H>,
     const N: usize,
 >(tree: &mut T, key: &K, value: &V) -> Result<bool, T::Error>
-    ensures has { IfOk result (λ has. ForRowsOf H.laws (T.kept tree.old).digests
-        (λ local. has ≡ has_digest H.laws local key.now (H.laws.value_digest local.hasher value.now))) }
-    ensures kept { T.kept tree.new ≡ T.kept tree.old }
+    ensures has { T.is_sound tree.new → IfOk result (SaysIfThere H.laws (T.kept tree.old).digests key.now value.now) }
+    ensures kept { T.is_sound tree.new → T.kept tree.new ≡ T.kept tree.old }
+    ensures steady { T.is_sound tree.new → T.is_sound tree.old }
 {
     let digest = tree.digest_of(value);
     has_digest(tree, key, digest.as_bytes().as_slice())
@@ -62,10 +65,12 @@ pub(crate) fn has_nodes<
     nodes: &[(Option<PageDigest>, Wanted<K>)],
     digest: &[u8; 16],
 ) -> Result<bool, T::Error>
-    ensures there { IfOk result (λ has. IsTrue has → ForRowsOf H.laws (T.kept tree.old).digests (λ local. HasNodes H.laws local (below_keys nodes.now) digest.now)) }
-    ensures lacked { IfOk result (λ has. has ≡ false → ForRowsOf H.laws (T.kept tree.old).digests
-        (λ local. ¬ HasNodes H.laws local (below_keys nodes.now) digest.now)) }
-    ensures kept { T.kept tree.new ≡ T.kept tree.old }
+    ensures there { T.is_sound tree.new → IfOk result (λ has. IsTrue has → ForRowsOf H.laws (T.kept tree.old).digests
+        (λ s. HasNodes H.laws s (below_keys nodes.now) digest.now)) }
+    ensures lacked { T.is_sound tree.new → IfOk result (λ has. has ≡ false → ForRowsOf H.laws (T.kept tree.old).digests
+        (λ s. ¬ HasNodes H.laws s (below_keys nodes.now) digest.now)) }
+    ensures kept { T.is_sound tree.new → T.kept tree.new ≡ T.kept tree.old }
+    ensures steady { T.is_sound tree.new → T.is_sound tree.old }
 {
     let mut sip = Sip24::new();
     'nodes: for node in nodes {

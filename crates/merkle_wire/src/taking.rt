@@ -2,8 +2,9 @@
 ghost use Rattle.std.specs.Prelude.{◌≡◌, OnOk};
 ghost use Rattle.merkle_wire.specs.Gaps.{between, owned_gap};
 ghost use Rattle.merkle_wire.specs.ItsRows.{ForRowsOf};
-ghost use Rattle.merkle_wire.specs.Steps.{nodes_read, as_told, outlines_read, IsReplyTaken, AddsGaps, AddsGapsBeside};
-ghost use Rattle.merkle_wire.specs.Taking.{AddsRows, AreTaken, IsRootTaken, IsPageTaken, IsNewGap, AddsKeys};
+ghost use Rattle.merkle_wire.specs.ByDigests.{AddsNewGap, AddsNewGapsBeside, TakesOutlines, TakesPage};
+ghost use Rattle.merkle_wire.specs.Steps.{nodes_read, as_told, outlines_read, IsReplyTaken};
+ghost use Rattle.merkle_wire.specs.Taking.{AddsRows, IsRootTaken, AddsKeys};
 
 use crate::coming::{NodeRead, OutlineRead, PageRead};
 use crate::gaps::OwnedGap;
@@ -27,8 +28,10 @@ pub(crate) fn take_reply<
     T: KeptTree<N, K, V, H>,
     const N: usize,
 >(tree: &mut T, count: u64, came: Reply<'_, K, V>, work: &mut Work<K, V>) -> Result<(), T::Error>
-    ensures taken { OnOk result (ForRowsOf H.laws (T.kept tree.old).digests (λ local. IsReplyTaken H.laws local came.entry work.old work.new)) }
-    ensures kept { T.kept tree.new ≡ T.kept tree.old }
+    ensures taken { T.is_sound tree.new → OnOk result (ForRowsOf H.laws (T.kept tree.old).digests
+        (λ local. IsReplyTaken H.laws local came.entry work.old work.new)) }
+    ensures kept { T.is_sound tree.new → T.kept tree.new ≡ T.kept tree.old }
+    ensures steady { T.is_sound tree.new → T.is_sound tree.old }
 {
     match came {
         Reply::Root(rows, digest) => {
@@ -64,8 +67,10 @@ fn take_root<
     digest: &Option<PageDigest>,
     work: &mut Work<K, V>,
 ) -> Result<(), T::Error>
-    ensures taken { OnOk result (ForRowsOf H.laws (T.kept tree.old).digests (λ local. IsRootTaken H.laws local digest.now work.old work.new)) }
-    ensures kept { T.kept tree.new ≡ T.kept tree.old }
+    ensures taken { T.is_sound tree.new → OnOk result (ForRowsOf H.laws (T.kept tree.old).digests
+        (λ local. IsRootTaken H.laws local digest.now work.old work.new)) }
+    ensures kept { T.is_sound tree.new → T.kept tree.new ≡ T.kept tree.old }
+    ensures steady { T.is_sound tree.new → T.is_sound tree.old }
 {
     let Some(digest) = digest else {
         return Ok(());
@@ -89,9 +94,10 @@ fn take_outlines<
     T: KeptTree<N, K, V, H>,
     const N: usize,
 >(tree: &mut T, told: Vec<OutlineOver<'_, K, V>>, work: &mut Work<K, V>) -> Result<(), T::Error>
-    ensures taken { OnOk result (ForRowsOf H.laws (T.kept tree.old).digests
-        (λ local. AreTaken H.laws local (outlines_read told.entry.items) work.old work.new)) }
-    ensures kept { T.kept tree.new ≡ T.kept tree.old }
+    ensures taken { T.is_sound tree.new → OnOk result (TakesOutlines H.laws (T.kept tree.old).digests (outlines_read told.entry.items)
+        work.old work.new) }
+    ensures kept { T.is_sound tree.new → T.kept tree.new ≡ T.kept tree.old }
+    ensures steady { T.is_sound tree.new → T.is_sound tree.old }
 {
     'told: for outline in told {
         let (gap, came) = outline;
@@ -113,9 +119,10 @@ fn take_outline<
     came: OutlineRead<'_, K, V>,
     work: &mut Work<K, V>,
 ) -> Result<(), T::Error>
-    ensures taken { OnOk result (ForRowsOf H.laws (T.kept tree.old).digests
-        (λ local. IsPageTaken H.laws local (owned_gap gap.now) (as_told came.entry) work.old work.new)) }
-    ensures kept { T.kept tree.new ≡ T.kept tree.old }
+    ensures taken { T.is_sound tree.new → OnOk result (TakesPage H.laws (T.kept tree.old).digests (owned_gap gap.now) (as_told came.entry)
+        work.old work.new) }
+    ensures kept { T.is_sound tree.new → T.kept tree.new ≡ T.kept tree.old }
+    ensures steady { T.is_sound tree.new → T.is_sound tree.old }
 {
     match came {
         OutlineRead::Rows(rows, bytes) => {
@@ -142,8 +149,10 @@ fn take_all<
     T: KeptTree<N, K, V, H>,
     const N: usize,
 >(tree: &mut T, rows: Vec<(K, V)>, work: &mut Work<K, V>) -> Result<(), T::Error>
-    ensures taken { OnOk result (ForRowsOf H.laws (T.kept tree.old).digests (λ local. AddsRows H.laws local rows.items work.old work.new)) }
-    ensures kept { T.kept tree.new ≡ T.kept tree.old }
+    ensures taken { T.is_sound tree.new → OnOk result (ForRowsOf H.laws (T.kept tree.old).digests
+        (λ local. AddsRows H.laws local rows.items work.old work.new)) }
+    ensures kept { T.is_sound tree.new → T.kept tree.new ≡ T.kept tree.old }
+    ensures steady { T.is_sound tree.new → T.is_sound tree.old }
 {
     'rows: for row in rows {
         let is_there = has_value(tree, &row.0, &row.1)?;
@@ -160,9 +169,10 @@ fn take_nodes<
     T: KeptTree<N, K, V, H>,
     const N: usize,
 >(tree: &mut T, nodes: Vec<NodeRead<'_, K>>, work: &mut Work<K, V>) -> Result<(), T::Error>
-    ensures taken { OnOk result (ForRowsOf H.laws (T.kept tree.old).digests
+    ensures taken { T.is_sound tree.new → OnOk result (ForRowsOf H.laws (T.kept tree.old).digests
         (λ local. AddsKeys H.laws local (nodes_read nodes.entry.items) work.old work.new)) }
-    ensures kept { T.kept tree.new ≡ T.kept tree.old }
+    ensures kept { T.is_sound tree.new → T.kept tree.new ≡ T.kept tree.old }
+    ensures steady { T.is_sound tree.new → T.is_sound tree.old }
 {
     'nodes: for node in nodes {
         let (wanted, digest) = node;
@@ -185,9 +195,10 @@ fn take_page<
     page: &PageRead<K>,
     work: &mut Work<K, V>,
 ) -> Result<(), T::Error>
-    ensures taken { OnOk result (ForRowsOf H.laws (T.kept tree.old).digests
-        (λ s. IsPageTaken H.laws s (owned_gap gap.now) (as_told (OutlineRead.Page page.now)) work.old work.new)) }
-    ensures kept { T.kept tree.new ≡ T.kept tree.old }
+    ensures taken { T.is_sound tree.new → OnOk result (TakesPage H.laws (T.kept tree.old).digests (owned_gap gap.now)
+        (as_told (OutlineRead.Page page.now)) work.old work.new) }
+    ensures kept { T.is_sound tree.new → T.kept tree.new ≡ T.kept tree.old }
+    ensures steady { T.is_sound tree.new → T.is_sound tree.old }
 {
     take_pages(tree, gap, &page.below, &page.last, work)?;
     if has_nodes(tree, &page.below, &page.digest)? {
@@ -213,9 +224,10 @@ fn take_pages<
     last: &Option<PageDigest>,
     work: &mut Work<K, V>,
 ) -> Result<(), T::Error>
-    ensures added { OnOk result (ForRowsOf H.laws (T.kept tree.old).digests
-        (λ local. AddsGapsBeside H.laws local (owned_gap gap.now) below.now last.now work.old work.new)) }
-    ensures kept { T.kept tree.new ≡ T.kept tree.old }
+    ensures added { T.is_sound tree.new → OnOk result (AddsNewGapsBeside H.laws (T.kept tree.old).digests (owned_gap gap.now)
+        below.now last.now work.old work.new) }
+    ensures kept { T.is_sound tree.new → T.kept tree.new ≡ T.kept tree.old }
+    ensures steady { T.is_sound tree.new → T.is_sound tree.old }
 {
     let mut after = gap.after.as_ref();
     'nodes: for node in below {
@@ -240,9 +252,10 @@ fn take_below<
     digest: &Option<PageDigest>,
     work: &mut Work<K, V>,
 ) -> Result<(), T::Error>
-    ensures added { OnOk result (ForRowsOf H.laws (T.kept tree.old).digests
-        (λ own. AddsGaps (IsNewGap H.laws own (between after.entry before.entry) digest.now) work.old work.new)) }
-    ensures kept { T.kept tree.new ≡ T.kept tree.old }
+    ensures added { T.is_sound tree.new → OnOk result (AddsNewGap H.laws (T.kept tree.old).digests (between after.entry before.entry) digest.now
+        work.old work.new) }
+    ensures kept { T.is_sound tree.new → T.kept tree.new ≡ T.kept tree.old }
+    ensures steady { T.is_sound tree.new → T.is_sound tree.old }
 {
     let Some(digest) = digest else {
         return Ok(());

@@ -10,7 +10,8 @@ use Rattle.std.specs.Prelude.{⊤}
 -- the values at the other keys continue those at the first
 abbrev pub invariant-keys : goal.invariant-keys
 invariant-keys g l = record {
-  kept : g.S.KeptSide.contents l.side l.beside ≡ g.S.KeptSide.contents l.fn.side l.beside;
-  told : IsContinued (λ wanted value. value ≡ get g.K.Ord.cmp (g.S.KeptSide.contents l.fn.side l.beside).rows wanted.key) (value_at_bytes g.V.Encode.encoding)
+  steady : g.S.KeptSide.is_sound l.side → g.S.KeptSide.is_sound l.fn.side;
+  kept : g.S.KeptSide.is_sound l.side → g.S.KeptSide.contents l.side l.beside ≡ g.S.KeptSide.contents l.fn.side l.beside;
+  told : g.S.KeptSide.is_sound l.side → IsContinued (λ wanted value. value ≡ get g.K.Ord.cmp (g.S.KeptSide.contents l.fn.side l.beside).rows wanted.key) (value_at_bytes g.V.Encode.encoding)
       (λ before t. ⊤) l.most_bytes l.keys (front RowsAt) l.wanted-index l.bytes.items;
 }

@@ -16,7 +16,7 @@ use Rattle.merkle_wire.proofs.ItemsMore.{map_more}
 use Rattle.merkle_wire.proofs.sifting.has_nodes.Goals as goal
 
 pub nodes-init : goal.nodes-init
-nodes-init g c = record { kept = refl; ds = []; there = refl; written = c.new-sip.ensures }
+nodes-init g c = record { steady = λ sound. sound; kept = λ _. refl; ds = []; there = λ _. refl; written = c.new-sip.ensures }
 
 pub nodes-preserved : goal.nodes-preserved
 nodes-preserved g c =
@@ -26,12 +26,16 @@ nodes-preserved g c =
     let node = c.node-item.result in
     let own = c.in-Some.own in
     let keys = below_keys (take c.nodes.node-index c.args.nodes.now) in
-    let found : at node.1.key ≡ Some own = sym (subst (λ t. c.in_ok-digest_at.field-0 ≡ get g.K.Ord.cmp t.digests.map node.1.key) kept.kept c.in_ok-digest_at.ensures.digest) ∙ c.in-Some.is in
+    let before = c.digest_at.ensures.steady in
     record {
-      kept = c.digest_at.ensures.kept ∙ kept.kept;
+      steady = λ sound. kept.steady (before sound);
+      kept = λ sound. c.digest_at.ensures.kept sound ∙ kept.kept (before sound);
       ds = kept.ds ++ own ∷ [];
-      there = ap (map at) (map_more (λ b. b.1.key) c.args.nodes.now c.nodes.node-index node c.nodes-test.true c.node-item.is) ∙ map-append at keys _
-          ∙ ap₂ (λ xs ys. xs ++ ys) kept.there (ap (λ o. o ∷ []) found) ∙ sym (map-append Some kept.ds (own ∷ []));
+      there = λ sound.
+          let found : at node.1.key ≡ Some own =
+          sym (subst (λ t. c.in_ok-digest_at.field-0 ≡ get g.K.Ord.cmp t.digests.map node.1.key) (kept.kept (before sound)) (c.in_ok-digest_at.ensures.digest sound)) ∙ c.in-Some.is in
+          ap (map at) (map_more (λ b. b.1.key) c.args.nodes.now c.nodes.node-index node c.nodes-test.true c.node-item.is) ∙ map-append at keys _
+          ∙ ap₂ (λ xs ys. xs ++ ys) (kept.there (before sound)) (ap (λ o. o ∷ []) found) ∙ sym (map-append Some kept.ds (own ∷ []));
       written = subst (Holds c.write.new.self zero_key)
           (ap (λ b. flat_map (λ d. d) kept.ds ++ b) (c.as_bytes.ensures ∙ sym (append-nil own)) ∙ sym (flat_map-append (λ (d : List ℕ). d) kept.ds (own ∷ [])))
           (c.write.ensures zero_key (flat_map (λ d. d) kept.ds) kept.written);
@@ -64,36 +68,37 @@ one_list (x ∷ ds) (y ∷ es) e =
     (λ i. first i ∷ rest i)
 
 pub returns-in-None-clause-lacked : goal.returns-in-None-clause-lacked
-returns-in-None-clause-lacked g c = rw g.met.H.RowHasher.laws_are (λ e rows kept (ds, own, is).
+returns-in-None-clause-lacked g c = rw g.met.H.RowHasher.laws_are (λ sound e rows kept (ds, own, is).
     let laws = laws_of g.K.Ord.cmp g.K.KeyBytes.bytes_of g.H.Hasher-1.digest_of g.V.PartialEq.eq g.V.Join.join_of g.H.Hasher-2.digest_of in
     let tree = (g.T.KeptTree.kept c.args.tree.now).digests in
     let of = same_get g.K.Ord.cmp g.met.K.Ord.total tree.map (tree_map laws (side_of tree rows)) kept in
     let node = c.node-item.result in
     let none : get g.K.Ord.cmp tree.map node.1.key ≡ None =
-    sym (subst (λ t. c.in_ok-digest_at.field-0 ≡ get g.K.Ord.cmp t.digests.map node.1.key) c.nodes.invariant.kept c.in_ok-digest_at.ensures.digest) ∙ c.in-None.is in
+    sym (subst (λ t. c.in_ok-digest_at.field-0 ≡ get g.K.Ord.cmp t.digests.map node.1.key) (c.nodes.invariant.kept (c.digest_at.ensures.steady sound))
+    (c.in_ok-digest_at.ensures.digest sound)) ∙ c.in-None.is in
     none_at (get g.K.Ord.cmp tree.map) (λ b. b.1.key) c.args.nodes.now c.nodes.node-index node c.nodes-test.true c.node-item.is
     none ds (same_all of (below_keys c.args.nodes.now) ∙ own))
 
 pub returns-clause-there : goal.returns-clause-there
-returns-clause-there g c = rw g.met.H.RowHasher.laws_are (λ t rows kept.
+returns-clause-there g c = rw g.met.H.RowHasher.laws_are (λ sound t rows kept.
     let laws = laws_of g.K.Ord.cmp g.K.KeyBytes.bytes_of g.H.Hasher-1.digest_of g.V.PartialEq.eq g.V.Join.join_of g.H.Hasher-2.digest_of in
     let tree = (g.T.KeptTree.kept c.args.tree.now).digests in
     let so = c.nodes.invariant in
     let of = same_get g.K.Ord.cmp g.met.K.Ord.total tree.map (tree_map laws (side_of tree rows)) kept in
     let all = ap (λ xs. map (get g.K.Ord.cmp tree.map) (below_keys xs)) (take_all c.nodes.node-index c.args.nodes.now c.nodes-test.false) in (
       so.ds,
-      sym (same_all of (below_keys c.args.nodes.now)) ∙ sym all ∙ so.there,
+      sym (same_all of (below_keys c.args.nodes.now)) ∙ sym all ∙ so.there sound,
       sym (c.finish128.ensures zero_key (flat_map (λ d. d) so.ds) so.written) ∙ (bytes_decides c.finish128.result c.args.digest.now).0 (sym c.eq.ensures ∙ t),
     ))
 
 pub returns-clause-lacked : goal.returns-clause-lacked
-returns-clause-lacked g c = rw g.met.H.RowHasher.laws_are (λ no rows kept (es, own, is).
+returns-clause-lacked g c = rw g.met.H.RowHasher.laws_are (λ sound no rows kept (es, own, is).
     let laws = laws_of g.K.Ord.cmp g.K.KeyBytes.bytes_of g.H.Hasher-1.digest_of g.V.PartialEq.eq g.V.Join.join_of g.H.Hasher-2.digest_of in
     let tree = (g.T.KeptTree.kept c.args.tree.now).digests in
     let so = c.nodes.invariant in
     let of = same_get g.K.Ord.cmp g.met.K.Ord.total tree.map (tree_map laws (side_of tree rows)) kept in
     let all = ap (λ xs. map (get g.K.Ord.cmp tree.map) (below_keys xs)) (take_all c.nodes.node-index c.args.nodes.now c.nodes-test.false) in
-    let same : so.ds ≡ es = one_list so.ds es (sym so.there ∙ all ∙ same_all of (below_keys c.args.nodes.now) ∙ own) in
+    let same : so.ds ≡ es = one_list so.ds es (sym (so.there sound) ∙ all ∙ same_all of (below_keys c.args.nodes.now) ∙ own) in
     let digests : c.finish128.result ≡ c.args.digest.now = c.finish128.ensures zero_key (flat_map (λ d. d) so.ds) so.written ∙ ap digest_of_all same ∙ is in
     let yes : c.eq.result ≡ true = c.eq.ensures ∙ (bytes_decides c.finish128.result c.args.digest.now).1 digests in
     let never : true ≡ false = sym yes ∙ no in

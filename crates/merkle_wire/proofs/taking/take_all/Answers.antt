@@ -10,8 +10,9 @@ pub rows-init : goal.rows-init
 rows-init g c = record {
   left = search rules;
   count = search rules;
-  kept = refl;
-  taken = λ rows of i. record c.args.work.now { rows = sym (append-nil c.args.work.now.rows) i };
+  steady = λ sound. sound;
+  kept = λ _. refl;
+  taken = λ _ rows of i. record c.args.work.now { rows = sym (append-nil c.args.work.now.rows) i };
 }
 
 pub rows-preserved : goal.rows-preserved
@@ -20,17 +21,20 @@ rows-preserved g c =
     let r = c.in-Some.row in
     let kept = c.rows.invariant in
     let given = one_yielded c.rows.row-iterator c.next.new.self c.rows.yielded c.args.rows.items r c.in-Some.ensures.steps kept.left kept.count in
-    let there = subst (λ t. ForRowsOf laws t.digests (λ local. c.in_ok-is_there.is_there ≡ has_row laws local r)) kept.kept c.in_ok-is_there.ensures.has in
+    let before = c.has_value.ensures.steady in
     record {
       left = given.0;
       count = given.1;
-      kept = c.has_value.ensures.kept ∙ kept.kept;
-      taken = λ rows of. rows-more laws (side_of (g.T.KeptTree.kept c.args.tree.now).digests rows) c.args.work.now c.rows.work c.take_row.new.self c.rows.yielded (r ∷ [])
-          (kept.taken rows of) (rw (there rows of) at c.in_ok-take_row.ensures);
+      steady = λ sound. kept.steady (before sound);
+      kept = λ sound. c.has_value.ensures.kept sound ∙ kept.kept (before sound);
+      taken = λ sound rows of.
+          let there = subst (λ t. ForRowsOf laws t.digests (λ local. c.in_ok-is_there.is_there ≡ has_row laws local r)) (kept.kept (before sound)) (c.in_ok-is_there.ensures.has sound) in
+          rows-more laws (side_of (g.T.KeptTree.kept c.args.tree.now).digests rows) c.args.work.now c.rows.work c.take_row.new.self c.rows.yielded (r ∷ [])
+          (kept.taken (before sound) rows of) (rw (there rows of) at c.in_ok-take_row.ensures);
     }
 
 pub returns-clause-taken : goal.returns-clause-taken
-returns-clause-taken g c = λ rows of.
+returns-clause-taken g c = λ sound rows of.
     let laws = g.H.RowHasher.laws in
     let done = all_yielded c.rows.yielded (into_iter_items c.rows.row-iterator) c.args.rows.items c.rows.invariant.left (sym c.rows.invariant.count ∙ c.in-None.ensures.steps.0) in
-    c.rows.invariant.taken rows of ∙ ap (λ rs. record c.args.work.now { rows = c.args.work.now.rows ++ new_rows laws (side_of (g.T.KeptTree.kept c.args.tree.now).digests rows) rs }) done
+    c.rows.invariant.taken sound rows of ∙ ap (λ rs. record c.args.work.now { rows = c.args.work.now.rows ++ new_rows laws (side_of (g.T.KeptTree.kept c.args.tree.now).digests rows) rs }) done

@@ -9,6 +9,8 @@ abbrev pub invariant-rows : goal.invariant-rows
 invariant-rows g l = record {
   left : l.yielded ++ into_iter_items l.row-iterator ≡ l.fn.rows.items;
   count : into_iter_len l.row-iterator ≡ length (into_iter_items l.row-iterator);
-  kept : g.T.KeptTree.kept l.tree ≡ g.T.KeptTree.kept l.fn.tree;
-  taken : ForRowsOf g.H.RowHasher.laws (g.T.KeptTree.kept l.fn.tree).digests (λ local. l.work ≡ record l.fn.work { rows = l.fn.work.rows ++ new_rows g.H.RowHasher.laws local l.yielded });
+  steady : g.T.KeptTree.is_sound l.tree → g.T.KeptTree.is_sound l.fn.tree;
+  kept : g.T.KeptTree.is_sound l.tree → g.T.KeptTree.kept l.tree ≡ g.T.KeptTree.kept l.fn.tree;
+  taken : g.T.KeptTree.is_sound l.tree → ForRowsOf g.H.RowHasher.laws (g.T.KeptTree.kept l.fn.tree).digests (λ local.
+      l.work ≡ record l.fn.work { rows = l.fn.work.rows ++ new_rows g.H.RowHasher.laws local l.yielded });
 }

@@ -3,12 +3,12 @@ use Rattle.merkle_wire.specs.Gaps.{owned_gap}
 use Rattle.merkle_wire.proofs.taking.take_below.Goals as goal
 
 pub returns-then-branch-clause-added : goal.returns-then-branch-clause-added
-returns-then-branch-clause-added g c = rw c.in-Some.is (λ rows of.
-    ([], inl (refl, c.in_ok-is_page.ensures.there c.if-branch.true rows of), λ i. record c.args.work.now { below = sym (append-nil c.args.work.now.below) i }))
+returns-then-branch-clause-added g c = rw c.in-Some.is (λ sound rows of.
+    ([], inl (refl, c.in_ok-is_page.ensures.there sound c.if-branch.true rows of), λ i. record c.args.work.now { below = sym (append-nil c.args.work.now.below) i }))
 
 pub returns-in_default-clause-added : goal.returns-in_default-clause-added
-returns-in_default-clause-added g c = rw c.in_default.is (λ rows of. ([], refl, λ i. record c.args.work.now { below = sym (append-nil c.args.work.now.below) i }))
+returns-in_default-clause-added g c = rw c.in_default.is (λ _ rows of. ([], refl, λ i. record c.args.work.now { below = sym (append-nil c.args.work.now.below) i }))
 
 pub returns-clause-added : goal.returns-clause-added
-returns-clause-added g c = rw c.in-Some.is (λ rows of.
-    (owned_gap c.in_ok-own.own ∷ [], inr (rw g.met.H.RowHasher.laws_are c.in_ok-own.ensures, c.in_ok-is_page.ensures.lacked c.if-branch.false rows of), c.in_ok-add_below.ensures))
+returns-clause-added g c = rw c.in-Some.is (λ sound rows of.
+    (owned_gap c.in_ok-own.own ∷ [], inr (rw g.met.H.RowHasher.laws_are c.in_ok-own.ensures, c.in_ok-is_page.ensures.lacked sound c.if-branch.false rows of), c.in_ok-add_below.ensures))

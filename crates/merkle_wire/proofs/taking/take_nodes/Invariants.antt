@@ -10,7 +10,8 @@ abbrev pub invariant-nodes : goal.invariant-nodes
 invariant-nodes g l = record {
   left : l.yielded ++ into_iter_items l.node-iterator ≡ l.fn.nodes.items;
   count : into_iter_len l.node-iterator ≡ length (into_iter_items l.node-iterator);
-  kept : g.T.KeptTree.kept l.tree ≡ g.T.KeptTree.kept l.fn.tree;
-  taken : ForRowsOf g.H.RowHasher.laws (g.T.KeptTree.kept l.fn.tree).digests (λ local.
+  steady : g.T.KeptTree.is_sound l.tree → g.T.KeptTree.is_sound l.fn.tree;
+  kept : g.T.KeptTree.is_sound l.tree → g.T.KeptTree.kept l.tree ≡ g.T.KeptTree.kept l.fn.tree;
+  taken : g.T.KeptTree.is_sound l.tree → ForRowsOf g.H.RowHasher.laws (g.T.KeptTree.kept l.fn.tree).digests (λ local.
       l.work ≡ record l.fn.work { wanted = l.fn.work.wanted ++ new_keys g.H.RowHasher.laws local (nodes_read l.yielded) });
 }

@@ -10,6 +10,7 @@ abbrev pub invariant-told : goal.invariant-told
 invariant-told g l = record {
   left : l.yielded ++ into_iter_items l.outline-iterator ≡ l.fn.told.items;
   count : into_iter_len l.outline-iterator ≡ length (into_iter_items l.outline-iterator);
-  kept : g.T.KeptTree.kept l.tree ≡ g.T.KeptTree.kept l.fn.tree;
-  taken : ForRowsOf g.H.RowHasher.laws (g.T.KeptTree.kept l.fn.tree).digests (λ local. AreTaken g.H.RowHasher.laws local (outlines_read l.yielded) l.fn.work l.work);
+  steady : g.T.KeptTree.is_sound l.tree → g.T.KeptTree.is_sound l.fn.tree;
+  kept : g.T.KeptTree.is_sound l.tree → g.T.KeptTree.kept l.tree ≡ g.T.KeptTree.kept l.fn.tree;
+  taken : g.T.KeptTree.is_sound l.tree → ForRowsOf g.H.RowHasher.laws (g.T.KeptTree.kept l.fn.tree).digests (λ local. AreTaken g.H.RowHasher.laws local (outlines_read l.yielded) l.fn.work l.work);
 }

@@ -11,5 +11,5 @@ returns-in-Ok-answer_by-clause-done c done =
       count = rows.count;
       counted = subst (CountsFor c.args.asked.now c.args.self.now) (sym c.unread-rows.ensures) c.in-Ok.ensures;
       row = rows.row;
-      replies = c.in-Ok-answer_by.ensures.answered;
+      replies = c.in-Ok-answer_by.ensures.answered tt;
     }

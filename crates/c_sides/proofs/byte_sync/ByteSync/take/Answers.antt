@@ -17,14 +17,14 @@ returns-else-len-eq0 c =
         before = before;
         under_way = sym c.in_ok-session.ensures.value;
         comes = subst (λ next. ForRowsOf byte_laws (digests_of c.args.self.now.tree) (λ local. IsNext byte_laws 16 key_encoding value_encoding local before c.args.reply.now next))
-            c.in-Ok-Ask.field-0-is c.in-Ok-Ask.ensures.next;
+            c.in-Ok-Ask.field-0-is (c.in-Ok-Ask.ensures.next tt);
       };
       asks = refl;
       some = λ none. c.if-len-eq0.false (has_len ∙ none);
       same = record {
-        map = ap (λ k. k.digests.map) c.take_by.ensures.kept;
+        map = ap (λ k. k.digests.map) (c.take_by.ensures.kept tt);
         settings =
-            (ap (λ k. k.digests.hasher) c.take_by.ensures.kept, ap (λ k. k.digests.base) c.take_by.ensures.kept, ap (λ k. k.digests.format) c.take_by.ensures.kept);
+            (ap (λ k. k.digests.hasher) (c.take_by.ensures.kept tt), ap (λ k. k.digests.base) (c.take_by.ensures.kept tt), ap (λ k. k.digests.format) (c.take_by.ensures.kept tt));
       };
       list = refl;
     }
@@ -35,18 +35,18 @@ returns-in-Ok-Came c =
     kept_taken old (record { tree = c.take_by.new.tree; session = c.take.new.self; about = old.about; message = c.new.result; list = old.list }) c.keep.new.self
     (λ none. subst IsPresent (c.in_ok-session.ensures.value ∙ none) tt)
     (record {
-      map = ap (λ k. k.digests.map) c.take_by.ensures.kept;
+      map = ap (λ k. k.digests.map) (c.take_by.ensures.kept tt);
       settings = (
-        ap (λ k. k.digests.hasher) c.take_by.ensures.kept,
-        ap (λ k. k.digests.base) c.take_by.ensures.kept,
-        ap (λ k. k.digests.format) c.take_by.ensures.kept,
+        ap (λ k. k.digests.hasher) (c.take_by.ensures.kept tt),
+        ap (λ k. k.digests.base) (c.take_by.ensures.kept tt),
+        ap (λ k. k.digests.format) (c.take_by.ensures.kept tt),
       );
     }) refl (c.take.ensures.after, c.new.ensures.items) c.args.reply.now c.in-Ok-Came.rows c.keep.result
     (record {
       before = before;
       under_way = sym c.in_ok-session.ensures.value;
       comes = subst (λ next. ForRowsOf byte_laws (digests_of old.tree) (λ local. IsNext byte_laws 16 key_encoding value_encoding local before c.args.reply.now next))
-          c.in-Ok-Came.field-0-is c.in-Ok-Came.ensures.next;
+          c.in-Ok-Came.field-0-is (c.in-Ok-Came.ensures.next tt);
     })
     c.keep.ensures
 

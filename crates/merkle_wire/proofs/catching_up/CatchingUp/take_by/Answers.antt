@@ -18,44 +18,44 @@ abbrev laws_at : (g : Over) → Laws g.row.K.Denot g.row.V.Denot g.row.H.Denot
 laws_at g = laws_of g.K.Ord.cmp g.K.KeyBytes.bytes_of g.H.Hasher-1.digest_of g.V.PartialEq.eq g.V.Join.join_of g.H.Hasher-2.digest_of
 
 -- the reply was taken, whatever rows the tree has the digests of
-taken : (g : Over) (c : In-Ok g) → ForRowsOf (laws_at g) (g.T.KeptTree.kept c.args.tree.now).digests
+taken : (g : Over) (c : In-Ok g) → g.T.KeptTree.is_sound c.take_reply.new.tree → ForRowsOf (laws_at g) (g.T.KeptTree.kept c.args.tree.now).digests
     (λ local. HasTakenReply (laws_at g) g.row.N g.K.Encode.encoding g.V.Encode.encoding local c.self.inside.asked c.args.reply.now c.self.inside.work c.take_reply.new.work c.in_ok-came.again)
-taken g c rows of =
+taken g c sound rows of =
     has_taken (laws_at g) g.row.N g.K.Encode.encoding g.V.Encode.encoding (side_of (g.T.KeptTree.kept c.args.tree.now).digests rows) c.self.inside.asked c.args.reply.now
     c.in_ok-came.came c.in_ok-came.again c.self.inside.work c.take_reply.new.work
-    c.in_ok-came.ensures.read ((rw g.met.H.RowHasher.laws_are at c.in-Ok.ensures.taken) rows of)
+    c.in_ok-came.ensures.read ((rw g.met.H.RowHasher.laws_are at (c.in-Ok.ensures.taken sound)) rows of)
 
 pub returns-in_ok-ask-in-Some-clause-next : goal.returns-in_ok-ask-in-Some-clause-next
-returns-in_ok-ask-in-Some-clause-next g c = rw g.met.H.RowHasher.laws_are (λ rows of.
+returns-in_ok-ask-in-Some-clause-next g c = rw g.met.H.RowHasher.laws_are (λ sound rows of.
     let local = side_of (g.T.KeptTree.kept c.args.tree.now).digests rows in
     let inside : Underway g.row.K.Denot g.row.V.Denot = record { asked = c.self.inside.asked; found = c.self.inside.work; rounds = c.self.inside.rounds; left = c.self.inside.left } in
     is_next (laws_at g) g.row.N g.K.Encode.encoding g.V.Encode.encoding local local c.args.self inside c.args.reply.now c.take_reply.new.work
     (Some c.in-Some.question) c.in_ok-came.again c.in_ok-ask-in-Some.field-0
-    refl c.self.view_is c.in-Some.is (taken g (goal.at.returns-in_ok-ask-in-Some-clause-next g c).In-Ok rows of) c.in_ok-ask-in-Some.ensures.asked)
+    refl c.self.view_is c.in-Some.is (taken g (goal.at.returns-in_ok-ask-in-Some-clause-next g c).In-Ok sound rows of) c.in_ok-ask-in-Some.ensures.asked)
 
 pub returns-in_ok-go_on-in-None-clause-next : goal.returns-in_ok-go_on-in-None-clause-next
-returns-in_ok-go_on-in-None-clause-next g c = rw g.met.H.RowHasher.laws_are (λ rows of.
+returns-in_ok-go_on-in-None-clause-next g c = rw g.met.H.RowHasher.laws_are (λ sound rows of.
     let local = side_of (g.T.KeptTree.kept c.args.tree.now).digests rows in
     let inside : Underway g.row.K.Denot g.row.V.Denot = record { asked = c.self.inside.asked; found = c.self.inside.work; rounds = c.self.inside.rounds; left = c.self.inside.left } in
     is_next (laws_at g) g.row.N g.K.Encode.encoding g.V.Encode.encoding local local c.args.self inside c.args.reply.now c.take_reply.new.work None c.in_ok-came.again c.in_ok-go_on-in-None.field-0
-    refl c.self.view_is c.in-None.is (taken g (goal.at.returns-in_ok-go_on-in-None-clause-next g c).In-Ok rows of) c.in_ok-go_on-in-None.ensures.goes_on)
+    refl c.self.view_is c.in-None.is (taken g (goal.at.returns-in_ok-go_on-in-None-clause-next g c).In-Ok sound rows of) c.in_ok-go_on-in-None.ensures.goes_on)
 
 pub returns-in_ok-ask-in-Some-clause-asked_for : goal.returns-in_ok-ask-in-Some-clause-asked_for
-returns-in_ok-ask-in-Some-clause-asked_for g c = rw g.met.H.RowHasher.laws_are (λ rows of.
+returns-in_ok-ask-in-Some-clause-asked_for g c = rw g.met.H.RowHasher.laws_are (λ sound rows of.
     only_asked (laws_at g) g.met.K.Ord.total g.row.N g.K.Encode.encoding g.V.Encode.encoding
     (side_of (g.T.KeptTree.kept c.args.tree.now).digests rows) c.args.self c.args.reply.now c.in_ok-ask-in-Some.field-0
-    ((rw g.met.H.RowHasher.laws_are at (returns-in_ok-ask-in-Some-clause-next g c)) rows of))
+    ((rw g.met.H.RowHasher.laws_are at (returns-in_ok-ask-in-Some-clause-next g c)) sound rows of))
 
 pub returns-in_ok-go_on-in-None-clause-asked_for : goal.returns-in_ok-go_on-in-None-clause-asked_for
-returns-in_ok-go_on-in-None-clause-asked_for g c = rw g.met.H.RowHasher.laws_are (λ rows of.
+returns-in_ok-go_on-in-None-clause-asked_for g c = rw g.met.H.RowHasher.laws_are (λ sound rows of.
     only_asked (laws_at g) g.met.K.Ord.total g.row.N g.K.Encode.encoding g.V.Encode.encoding
     (side_of (g.T.KeptTree.kept c.args.tree.now).digests rows) c.args.self c.args.reply.now c.in_ok-go_on-in-None.field-0
-    ((rw g.met.H.RowHasher.laws_are at (returns-in_ok-go_on-in-None-clause-next g c)) rows of))
+    ((rw g.met.H.RowHasher.laws_are at (returns-in_ok-go_on-in-None-clause-next g c)) sound rows of))
 
 pub returns-in_err-came-clause-ended : goal.returns-in_err-came-clause-ended
 returns-in_err-came-clause-ended g c = rw g.met.H.RowHasher.laws_are (
     let p = err_from_is_err_and c.from_residual-in_err-came.result c.from_residual-in_err-came.ensures.1 in
-    rw (p.1, p.2) (λ rows of. refused_stops (laws_at g) g.row.N g.K.Encode.encoding g.V.Encode.encoding g.K.Decode.is_value g.V.Decode.is_value
+    rw (p.1, p.2) (λ _ rows of. refused_stops (laws_at g) g.row.N g.K.Encode.encoding g.V.Encode.encoding g.K.Decode.is_value g.V.Decode.is_value
     (side_of (g.T.KeptTree.kept c.args.tree.now).digests rows) c.args.self c.args.reply.now c.in_err-came.field-0.0
     (rw (ap (λ s. s.asked) c.self.view_is) at c.in_err-came.ensures.refused)))
 
@@ -63,17 +63,17 @@ pub returns-in_err-check_rows-clause-ended : goal.returns-in_err-check_rows-clau
 returns-in_err-check_rows-clause-ended g c = rw g.met.H.RowHasher.laws_are (
     let p = err_from_is_err_and c.from_residual-in_err-check_rows.result c.from_residual-in_err-check_rows.ensures.1 in
     let inside : Underway g.row.K.Denot g.row.V.Denot = record { asked = c.self.inside.asked; found = c.self.inside.work; rounds = c.self.inside.rounds; left = c.self.inside.left } in
-    rw (p.1, p.2) (λ rows of. let local = side_of (g.T.KeptTree.kept c.args.tree.now).digests rows in
+    rw (p.1, p.2) (λ sound rows of. let local = side_of (g.T.KeptTree.kept c.args.tree.now).digests rows in
     over_stops (laws_at g) g.row.N g.K.Encode.encoding g.V.Encode.encoding g.K.Decode.is_value g.V.Decode.is_value local local c.args.self inside c.args.reply.now
     c.take_reply.new.work c.in_ok-came.again c.in_ok-left.left
-    c.row_count.result c.in_err-check_rows.field-0.0 refl c.self.view_is (taken g (goal.at.returns-in_err-check_rows-clause-ended g c).In-Ok rows of)
+    c.row_count.result c.in_err-check_rows.field-0.0 refl c.self.view_is (taken g (goal.at.returns-in_err-check_rows-clause-ended g c).In-Ok sound rows of)
     c.in_ok-left.ensures.left.2 c.row_count.ensures c.in_err-check_rows.ensures.over))
 
 pub returns-in_err-go_on-in-None-clause-ended : goal.returns-in_err-go_on-in-None-clause-ended
 returns-in_err-go_on-in-None-clause-ended g c = rw g.met.H.RowHasher.laws_are (
     let p = err_from_is_err_and c.from_residual-in_err-go_on-in-None.result c.from_residual-in_err-go_on-in-None.ensures.1 in
     let inside : Underway g.row.K.Denot g.row.V.Denot = record { asked = c.self.inside.asked; found = c.self.inside.work; rounds = c.self.inside.rounds; left = c.self.inside.left } in
-    rw (p.1, p.2) (λ rows of. let local = side_of (g.T.KeptTree.kept c.args.tree.now).digests rows in
+    rw (p.1, p.2) (λ sound rows of. let local = side_of (g.T.KeptTree.kept c.args.tree.now).digests rows in
     is_stopped (laws_at g) g.row.N g.K.Encode.encoding g.V.Encode.encoding g.K.Decode.is_value g.V.Decode.is_value local local c.args.self inside c.args.reply.now
     c.take_reply.new.work c.in_ok-came.again c.in_err-go_on-in-None.field-0.0
-    refl c.self.view_is c.in-None.is (taken g (goal.at.returns-in_err-go_on-in-None-clause-ended g c).In-Ok rows of) c.in_err-go_on-in-None.ensures.ended))
+    refl c.self.view_is c.in-None.is (taken g (goal.at.returns-in_err-go_on-in-None-clause-ended g c).In-Ok sound rows of) c.in_err-go_on-in-None.ensures.ended))

@@ -7,11 +7,11 @@ use Rattle.merkle_wire.proofs.HashedDigests.{hashed_digests}
 use Rattle.merkle_wire.proofs.kept_tree.MerkleSearchTreeKeptTree.is_page.Goals as goal
 
 pub returns-clause-there : goal.returns-clause-there
-returns-clause-there g c = λ yes.
+returns-clause-there g c = λ _ yes.
     let same = hashed_digests g.K.KeyBytes.bytes_of c.args.self.now c.root_hash_counted.new.self c.root_hash_counted.ensures.tree in
     subst (λ own. ForRowsOf g.H.RowHasher.laws own (λ local. HasPage g.H.RowHasher.laws local c.args.digest.now)) same (c.is_page_of.ensures.there yes)
 
 pub returns-clause-lacked : goal.returns-clause-lacked
-returns-clause-lacked g c = λ no.
+returns-clause-lacked g c = λ _ no.
     let same = hashed_digests g.K.KeyBytes.bytes_of c.args.self.now c.root_hash_counted.new.self c.root_hash_counted.ensures.tree in
     subst (λ own. ForRowsOf g.H.RowHasher.laws own (λ local. ¬ HasPageAt g.H.RowHasher.laws local (lent_gap c.args.gap.now) c.args.digest.now)) same (c.is_page_of.ensures.lacked no)

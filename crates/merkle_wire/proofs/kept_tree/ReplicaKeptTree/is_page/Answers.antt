@@ -7,17 +7,17 @@ use Rattle.merkle_wire.proofs.HashedDigests.{hashed_digests}
 use Rattle.merkle_wire.proofs.kept_tree.ReplicaKeptTree.is_page.Goals as goal
 
 pub returns-clause-there : goal.returns-clause-there
-returns-clause-there g c = λ yes.
+returns-clause-there g c = λ _ yes.
     let same = hashed_digests g.K.KeyBytes.bytes_of c.args.self.now.tree c.hash.new.self.tree c.hash.ensures.tree in
     subst (λ own. ForRowsOf g.H.RowHasher.laws own (λ local. HasPage g.H.RowHasher.laws local c.args.digest.now)) same ((rw c.tree.ensures.tree at c.is_page_of.ensures.there) yes)
 
 pub returns-clause-lacked : goal.returns-clause-lacked
-returns-clause-lacked g c = λ no.
+returns-clause-lacked g c = λ _ no.
     let same = hashed_digests g.K.KeyBytes.bytes_of c.args.self.now.tree c.hash.new.self.tree c.hash.ensures.tree in
     subst (λ own. ForRowsOf g.H.RowHasher.laws own (λ local. ¬ HasPageAt g.H.RowHasher.laws local (lent_gap c.args.gap.now) c.args.digest.now)) same
     ((rw c.tree.ensures.tree at c.is_page_of.ensures.lacked) no)
 
 pub returns-clause-kept : goal.returns-clause-kept
-returns-clause-kept g c =
+returns-clause-kept g c = λ _.
     let same = hashed_digests g.K.KeyBytes.bytes_of c.args.self.now.tree c.hash.new.self.tree c.hash.ensures.tree in
     (λ i. record { digests = same i; rows = Some (c.hash.ensures.rows i) })
