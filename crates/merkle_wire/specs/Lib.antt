@@ -15,3 +15,5 @@ pub mod SessionLaws
 pub mod Faults
 pub mod ItsRows
 pub mod Steps
+pub mod ByDigests
+pub mod Tellings

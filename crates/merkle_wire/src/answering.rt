@@ -1,10 +1,10 @@
 //! The answering side: a reply to a message, with nothing kept between messages.
-ghost use Rattle.std.specs.Prelude.{◌≡◌, false, IsSome, IsTrue, IfOk, IfErr, IfSome, Some, length};
+ghost use Rattle.std.specs.Prelude.{◌≡◌, false, IsSome, IsTrue, IfOk, IfErr, IfSome, Some};
 ghost use Rattle.merkle_tree_theory.specs.State.{SameSettings, map_of};
 ghost use Rattle.merkle_wire.specs.Faults.{IsUnread, OfMessage, answer_error_text, AreOtherSettings};
 ghost use Rattle.merkle_wire.specs.Questions.{AsksNothing};
-ghost use Rattle.merkle_wire.specs.Replies.{EndsWithin, IsAnsweredBy, IsAnsweredWithin, AsksWithOthers, root_reply_bytes, root_page_digest, IsReply};
-ghost use Rattle.merkle_wire.specs.Replies.{TellsSettings};
+ghost use Rattle.merkle_wire.specs.Replies.{EndsWithin, IsAnsweredBy, IsAnsweredWithin, AsksWithOthers, IsReply, TellsSettings};
+ghost use Rattle.merkle_wire.specs.Tellings.{IsAnsweredOf, IsReplyOfSide, TellsRoot};
 
 use crate::kept_side::KeptSide;
 use crate::message::{Kind, begin};
@@ -172,8 +172,8 @@ pub fn answer_by<
     message: &[u8],
     most_bytes: usize,
 ) -> Result<Vec<u8>, KeptError<S::Error>>
-    ensures answered { S.is_sound side.new → IfOk result (IsAnsweredBy H.laws N K.encoding V.encoding (S.contents side.old beside.now).rows
-        (S.contents side.new beside.now).tree message.now) }
+    ensures answered { S.is_sound side.new → IfOk result (IsAnsweredOf H.laws N K.encoding V.encoding (S.contents side.old beside.now)
+        (S.contents side.new beside.now) message.now) }
     ensures within { S.is_sound side.new → IfOk result (IsAnsweredWithin K.encoding V.encoding most_bytes message.now) }
     ensures malformed { IfErr result (OfMessage (λ error. IsUnread error → AsksNothing K.encoding K.is_value message.now)) }
     ensures other_settings { IfErr result (OfMessage (λ error. AreOtherSettings error
@@ -232,8 +232,7 @@ fn reply_to<
     most_bytes: usize,
 ) -> Result<Vec<u8>, KeptError<S::Error>>
     requires hashed { S.is_sound side.old → IsSome (S.contents side.old beside.now).tree.root_hash }
-    ensures reply { S.is_sound side.new → IfOk result (λ reply. IsReply H.laws N K.encoding V.encoding (S.contents side.old beside.now).rows
-        (S.contents side.old beside.now).tree question.now reply.items) }
+    ensures reply { S.is_sound side.new → IfOk result (IsReplyOfSide H.laws N K.encoding V.encoding (S.contents side.old beside.now) question.now) }
     ensures within { S.is_sound side.new → IfOk result (λ reply. EndsWithin K.encoding V.encoding most_bytes question.now reply.items) }
     ensures read { IfErr result (OfMessage (λ error. ¬ IsUnread error)) }
     ensures others { IfErr result (OfMessage (λ error. AreOtherSettings error → ¬ TellsSettings H.laws N (S.contents side.new beside.now).tree question.now)) }
@@ -287,8 +286,7 @@ fn tell<
 ) -> Result<Vec<u8>, S::Error>
     requires hashed { S.is_sound side.old → IsSome (S.contents side.old beside.now).tree.root_hash }
     requires settings { TellsSettings H.laws N (S.contents side.old beside.now).tree question.now }
-    ensures reply { S.is_sound side.new → IfOk result (λ reply. IsReply H.laws N K.encoding V.encoding (S.contents side.old beside.now).rows
-        (S.contents side.old beside.now).tree question.now reply.items) }
+    ensures reply { S.is_sound side.new → IfOk result (IsReplyOfSide H.laws N K.encoding V.encoding (S.contents side.old beside.now) question.now) }
     ensures within { S.is_sound side.new → IfOk result (λ reply. EndsWithin K.encoding V.encoding most_bytes question.now reply.items) }
     ensures kept { S.is_sound side.new → S.contents side.new beside.now ≡ S.contents side.old beside.now }
     ensures steady { S.is_sound side.new → S.is_sound side.old }
@@ -332,8 +330,7 @@ fn tell_root<
     const N: usize,
 >(alloc: Global, side: &mut S, beside: &R) -> Result<Vec<u8>, S::Error>
     requires hashed { S.is_sound side.old → IsSome (S.contents side.old beside.now).tree.root_hash }
-    ensures told { S.is_sound side.new → IfOk result (λ reply. reply.items ≡ root_reply_bytes (length (S.contents side.old beside.now).rows)
-        (root_page_digest K.bytes_of (S.contents side.old beside.now).tree)) }
+    ensures told { S.is_sound side.new → IfOk result (TellsRoot K.bytes_of (S.contents side.old beside.now)) }
     ensures kept { S.is_sound side.new → S.contents side.new beside.now ≡ S.contents side.old beside.now }
     ensures steady { S.is_sound side.new → S.is_sound side.old }
 {

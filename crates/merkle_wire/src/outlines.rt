@@ -5,7 +5,8 @@ ghost use Rattle.merkle_search_tree.specs.Items.{items, bound_of};
 ghost use Rattle.merkle_wire.specs.Messages.{front};
 ghost use Rattle.merkle_wire.specs.Outlines.{HasNoPage, pages_beside, pages_bytes, nodes_digest, IsTold};
 ghost use Rattle.merkle_wire.specs.Replies.{IsFull, items_over, outline_over_bytes, TellsWhatFits};
-ghost use Rattle.merkle_wire.specs.Steps.{AddsTold, TellsPages, lent_page_bytes};
+ghost use Rattle.merkle_wire.specs.Steps.{AddsTold, lent_page_bytes};
+ghost use Rattle.merkle_wire.specs.Tellings.{TellsOutlines};
 
 use crate::gaps::OwnedGap;
 use crate::kept_rows::KeptRows;
@@ -49,8 +50,8 @@ pub(crate) fn tell_pages<
     gaps: &[OwnedGap<K>],
 ) -> Result<Vec<u8>, S::Error>
     requires hashed { S.is_sound side.old → IsSome (S.contents side.old beside.now).tree.root_hash }
-    ensures told { S.is_sound side.new → IfOk result (λ told. TellsPages K.cmp K.bytes_of K.encoding V.encoding (S.contents side.old beside.now)
-        telling kind gaps.now told.items) }
+    ensures told { S.is_sound side.new → IfOk result (TellsOutlines K.cmp K.bytes_of K.encoding V.encoding (S.contents side.old beside.now)
+        telling kind gaps.now) }
     ensures fits { S.is_sound side.new → IfOk result (λ r. TellsWhatFits (outline_over_bytes K.encoding V.encoding) (λ bytes t. ⊤)
         most_bytes gaps.now (front kind) r.items) }
     ensures kept { S.is_sound side.new → S.contents side.new beside.now ≡ S.contents side.old beside.now }

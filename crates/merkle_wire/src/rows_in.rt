@@ -6,9 +6,8 @@ ghost use Rattle.merkle_tree_theory.specs.Gap.{is_after, is_before, pairs_within
 ghost use Rattle.merkle_bytes.specs.Encodings.{AddsBytes};
 ghost use Rattle.merkle_wire.specs.Gaps.{owned_gap};
 ghost use Rattle.merkle_wire.specs.Steps.{TellsPart};
-ghost use Rattle.merkle_wire.specs.Messages.{front};
-ghost use Rattle.merkle_wire.specs.Replies.{AnswersFirst, part_in_bytes, IsPartOf, rows_bytes, TellsWhatFits, RowsFit};
-ghost use Rattle.merkle_wire.specs.declared.message.Kind.TheVariants.{RowsIn};
+ghost use Rattle.merkle_wire.specs.Replies.{rows_bytes};
+ghost use Rattle.merkle_wire.specs.Tellings.{TellsRows, TellsRowsThatFit};
 
 use crate::gaps::OwnedGap;
 use crate::kept_side::KeptSide;
@@ -34,12 +33,10 @@ pub(crate) fn tell_rows<
     most_bytes: usize,
     gaps: &[OwnedGap<K>],
 ) -> Result<Vec<u8>, S::Error>
-    ensures told { S.is_sound side.new → IfOk result (λ told. AnswersFirst Kind.RowsIn (part_in_bytes K.encoding V.encoding)
-        (IsPartOf K.cmp (S.contents side.old beside.now).rows) gaps.now told.items) }
+    ensures told { S.is_sound side.new → IfOk result (TellsRows K.encoding V.encoding K.cmp (S.contents side.old beside.now).rows gaps.now) }
     ensures kept { S.is_sound side.new → S.contents side.new beside.now ≡ S.contents side.old beside.now }
     ensures steady { S.is_sound side.new → S.is_sound side.old }
-    ensures fits { S.is_sound side.new → IfOk result (λ r. TellsWhatFits (part_in_bytes K.encoding V.encoding) (RowsFit K.encoding V.encoding most_bytes)
-        most_bytes gaps.now (front RowsIn) r.items) }
+    ensures fits { S.is_sound side.new → IfOk result (TellsRowsThatFit K.encoding V.encoding most_bytes gaps.now) }
 {
     let mut bytes = begin(alloc, Kind::RowsIn)?;
     'gaps: for gap in gaps {

@@ -1,5 +1,6 @@
 //! Whether what came is there already, by a tree of digests.
 ghost use Rattle.std.specs.Prelude.{◌≡◌, false, IfOk, IsTrue};
+ghost use Rattle.merkle_wire.specs.ByDigests.{SaysIfThere};
 ghost use Rattle.merkle_wire.specs.ItsRows.{ForRowsOf};
 ghost use Rattle.merkle_wire.specs.Steps.{below_keys};
 ghost use Rattle.merkle_wire.specs.Taking.{HasNodes, has_digest, is_digest};
@@ -44,8 +45,7 @@ pub(crate) fn has_value<
     T: KeptTree<N, K, V, H>,
     const N: usize,
 >(tree: &mut T, key: &K, value: &V) -> Result<bool, T::Error>
-    ensures has { T.is_sound tree.new → IfOk result (λ has. ForRowsOf H.laws (T.kept tree.old).digests
-        (λ local. has ≡ has_digest H.laws local key.now (H.laws.value_digest local.hasher value.now))) }
+    ensures has { T.is_sound tree.new → IfOk result (SaysIfThere H.laws (T.kept tree.old).digests key.now value.now) }
     ensures kept { T.is_sound tree.new → T.kept tree.new ≡ T.kept tree.old }
     ensures steady { T.is_sound tree.new → T.is_sound tree.old }
 {

@@ -2,8 +2,9 @@
 ghost use Rattle.std.specs.Prelude.{◌≡◌, OnOk};
 ghost use Rattle.merkle_wire.specs.Gaps.{between, owned_gap};
 ghost use Rattle.merkle_wire.specs.ItsRows.{ForRowsOf};
-ghost use Rattle.merkle_wire.specs.Steps.{nodes_read, as_told, outlines_read, IsReplyTaken, AddsGaps, AddsGapsBeside};
-ghost use Rattle.merkle_wire.specs.Taking.{AddsRows, AreTaken, IsRootTaken, IsPageTaken, IsNewGap, AddsKeys};
+ghost use Rattle.merkle_wire.specs.ByDigests.{AddsNewGap, AddsNewGapsBeside, TakesOutlines, TakesPage};
+ghost use Rattle.merkle_wire.specs.Steps.{nodes_read, as_told, outlines_read, IsReplyTaken};
+ghost use Rattle.merkle_wire.specs.Taking.{AddsRows, IsRootTaken, AddsKeys};
 
 use crate::coming::{NodeRead, OutlineRead, PageRead};
 use crate::gaps::OwnedGap;
@@ -93,8 +94,8 @@ fn take_outlines<
     T: KeptTree<N, K, V, H>,
     const N: usize,
 >(tree: &mut T, told: Vec<OutlineOver<'_, K, V>>, work: &mut Work<K, V>) -> Result<(), T::Error>
-    ensures taken { T.is_sound tree.new → OnOk result (ForRowsOf H.laws (T.kept tree.old).digests
-        (λ local. AreTaken H.laws local (outlines_read told.entry.items) work.old work.new)) }
+    ensures taken { T.is_sound tree.new → OnOk result (TakesOutlines H.laws (T.kept tree.old).digests (outlines_read told.entry.items)
+        work.old work.new) }
     ensures kept { T.is_sound tree.new → T.kept tree.new ≡ T.kept tree.old }
     ensures steady { T.is_sound tree.new → T.is_sound tree.old }
 {
@@ -118,8 +119,8 @@ fn take_outline<
     came: OutlineRead<'_, K, V>,
     work: &mut Work<K, V>,
 ) -> Result<(), T::Error>
-    ensures taken { T.is_sound tree.new → OnOk result (ForRowsOf H.laws (T.kept tree.old).digests
-        (λ local. IsPageTaken H.laws local (owned_gap gap.now) (as_told came.entry) work.old work.new)) }
+    ensures taken { T.is_sound tree.new → OnOk result (TakesPage H.laws (T.kept tree.old).digests (owned_gap gap.now) (as_told came.entry)
+        work.old work.new) }
     ensures kept { T.is_sound tree.new → T.kept tree.new ≡ T.kept tree.old }
     ensures steady { T.is_sound tree.new → T.is_sound tree.old }
 {
@@ -194,8 +195,8 @@ fn take_page<
     page: &PageRead<K>,
     work: &mut Work<K, V>,
 ) -> Result<(), T::Error>
-    ensures taken { T.is_sound tree.new → OnOk result (ForRowsOf H.laws (T.kept tree.old).digests
-        (λ s. IsPageTaken H.laws s (owned_gap gap.now) (as_told (OutlineRead.Page page.now)) work.old work.new)) }
+    ensures taken { T.is_sound tree.new → OnOk result (TakesPage H.laws (T.kept tree.old).digests (owned_gap gap.now)
+        (as_told (OutlineRead.Page page.now)) work.old work.new) }
     ensures kept { T.is_sound tree.new → T.kept tree.new ≡ T.kept tree.old }
     ensures steady { T.is_sound tree.new → T.is_sound tree.old }
 {
@@ -223,8 +224,8 @@ fn take_pages<
     last: &Option<PageDigest>,
     work: &mut Work<K, V>,
 ) -> Result<(), T::Error>
-    ensures added { T.is_sound tree.new → OnOk result (ForRowsOf H.laws (T.kept tree.old).digests
-        (λ local. AddsGapsBeside H.laws local (owned_gap gap.now) below.now last.now work.old work.new)) }
+    ensures added { T.is_sound tree.new → OnOk result (AddsNewGapsBeside H.laws (T.kept tree.old).digests (owned_gap gap.now)
+        below.now last.now work.old work.new) }
     ensures kept { T.is_sound tree.new → T.kept tree.new ≡ T.kept tree.old }
     ensures steady { T.is_sound tree.new → T.is_sound tree.old }
 {
@@ -251,8 +252,8 @@ fn take_below<
     digest: &Option<PageDigest>,
     work: &mut Work<K, V>,
 ) -> Result<(), T::Error>
-    ensures added { T.is_sound tree.new → OnOk result (ForRowsOf H.laws (T.kept tree.old).digests
-        (λ own. AddsGaps (IsNewGap H.laws own (between after.entry before.entry) digest.now) work.old work.new)) }
+    ensures added { T.is_sound tree.new → OnOk result (AddsNewGap H.laws (T.kept tree.old).digests (between after.entry before.entry) digest.now
+        work.old work.new) }
     ensures kept { T.is_sound tree.new → T.kept tree.new ≡ T.kept tree.old }
     ensures steady { T.is_sound tree.new → T.is_sound tree.old }
 {

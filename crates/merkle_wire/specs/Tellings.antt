@@ -1,0 +1,46 @@
+-- What a side tells of its rows and its tree.
+use Rattle.std.specs.Prelude.{◌≡◌, ℕ, List, length}
+use Rattle.std.specs.Global.{Vec}
+use Rattle.std.specs.declared.cmp.Ordering.{Ordering}
+use Rattle.key_order.specs.Map.{get}
+use Rattle.merkle_replica.specs.Contents.{Contents}
+use Rattle.merkle_replica.specs.Laws.{Laws}
+use Rattle.merkle_wire.specs.Messages.{front}
+use Rattle.merkle_wire.specs.Replies.{AnswersFirst, IsAnsweredBy, IsPartOf, IsReply, RowsFit, TellsWhatFits, part_in_bytes, root_page_digest, root_reply_bytes, value_at_bytes}
+use Rattle.merkle_wire.specs.Steps.{TellsPages}
+use Rattle.merkle_wire.specs.declared.gaps.OwnedGap.{OwnedGap}
+use Rattle.merkle_wire.specs.declared.message.Kind.{Kind}
+use Rattle.merkle_wire.specs.declared.message.Kind.TheVariants.{RowsAt, RowsIn}
+use Rattle.merkle_wire.specs.declared.outlines.Telling.{Telling}
+use Rattle.merkle_wire.specs.declared.question.Question.{Question}
+use Rattle.merkle_wire.specs.declared.wanted.Wanted.{Wanted}
+
+module _ {K V H : Type 0} (laws : Laws K V H) (n : ℕ) (encoding : K → List ℕ) (values : V → List ℕ) where
+  -- the reply to a question of a side with these rows and this tree
+  abbrev pub IsReplyOfSide : Contents K V H → Question K → Vec ℕ → Type 0
+  IsReplyOfSide side question reply = IsReply laws n encoding values side.rows side.tree question reply.items
+
+  -- the message asks a question, and this is the reply to it by the rows before and the tree after
+  abbrev pub IsAnsweredOf : Contents K V H → Contents K V H → List ℕ → Vec ℕ → Type 0
+  IsAnsweredOf before after message reply = IsAnsweredBy laws n encoding values before.rows after.tree message reply
+
+-- a reply tells how many rows there are, and the digest of the root page, or none
+abbrev pub TellsRoot : {K V H : Type 0} → (K → List ℕ) → Contents K V H → Vec ℕ → Type 0
+TellsRoot bytes_of side reply = reply.items ≡ root_reply_bytes (length side.rows) (root_page_digest bytes_of side.tree)
+
+-- a reply of this kind tells of the pages over the first of the gaps
+abbrev pub TellsOutlines : {K V H : Type 0} → (K → K → Ordering) → (K → List ℕ) → (K → List ℕ) → (V → List ℕ) → Contents K V H → Telling → Kind → List (OwnedGap K) → Vec ℕ → Type 0
+TellsOutlines cmp bytes_of encoding values side telling kind gaps reply = TellsPages cmp bytes_of encoding values side telling kind gaps reply.items
+
+-- a reply tells the values at the first of the keys
+abbrev pub TellsValues : {K V : Type 0} → (K → K → Ordering) → (V → List ℕ) → List (K × V) → List (Wanted K) → Vec ℕ → Type 0
+TellsValues cmp values rows keys reply = AnswersFirst RowsAt (value_at_bytes values) (λ w value. value ≡ get cmp rows w.key) keys reply.items
+
+module _ {K V : Type 0} (encoding : K → List ℕ) (values : V → List ℕ) where
+  -- a reply tells the rows in the first of the gaps
+  abbrev pub TellsRows : (K → K → Ordering) → List (K × V) → List (OwnedGap K) → Vec ℕ → Type 0
+  TellsRows cmp rows gaps reply = AnswersFirst RowsIn (part_in_bytes encoding values) (IsPartOf cmp rows) gaps reply.items
+
+  -- a reply of rows in gaps tells all that fit
+  abbrev pub TellsRowsThatFit : ℕ → List (OwnedGap K) → Vec ℕ → Type 0
+  TellsRowsThatFit most gaps reply = TellsWhatFits (part_in_bytes encoding values) (RowsFit encoding values most) most gaps (front RowsIn) reply.items
