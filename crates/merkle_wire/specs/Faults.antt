@@ -15,11 +15,6 @@ use Rattle.merkle_wire.specs.declared.session.MessagesError.{MessagesError}
 use Rattle.merkle_wire.specs.declared.session.MessagesError.TheVariants as messages
 use Rattle.merkle_wire.specs.declared.session_error.SessionError.{SessionError}
 use Rattle.merkle_wire.specs.declared.session_error.SessionError.TheVariants as session
-use Rattle.merkle_wire.specs.declared.session_error.TakeError.{TakeError}
-use Rattle.merkle_wire.specs.declared.session_error.TakeError.TheVariants.{Session, Tree}
-use Rattle.merkle_replica.specs.Laws.{Laws}
-use Rattle.merkle_replica.specs.Contents.{Side}
-use Rattle.merkle_wire.specs.ItsRows.{Digests, ForRowsOf}
 
 -- why bytes that were not read are not taken: out of memory, or malformed
 abbrev pub unread : {E : Type 0} → E → (ReadError → E) → ReadError → E
@@ -40,11 +35,6 @@ AreOtherSettings _ = ⊥
 abbrev pub OfMessage : {E : Type 0} → (AnswerError → Type 0) → KeptError E → Type 0
 OfMessage Holds (Answer error) = Holds error
 OfMessage Holds (Kept error) = ⊤
-
--- this holds of an error of the session, whatever rows these are the digests of; of one of the tree nothing is said
-abbrev pub OfSession : {K V H E : Type 0} → Laws K V H → Digests K H → (Side K V H → SessionError → Type 0) → TakeError E → Type 0
-OfSession laws own Holds (Session error) = ForRowsOf laws own (λ local. Holds local error)
-OfSession laws own Holds (Tree error) = ⊤
 
 -- a reply is refused when out of memory, or for this reason
 abbrev pub IsRefusedFor : Type 0 → SessionError → Type 0

@@ -8,7 +8,7 @@ use Rattle.merkle_bytes.specs.Encodings.{AddsBytes}
 use Rattle.merkle_bytes.specs.Runs.{bound_key, row_behind}
 use Rattle.merkle_replica.specs.Contents.{Contents, Side}
 use Rattle.merkle_wire.specs.Outlines.{Outline, IsTold, outline_bytes, keys_among, node_pairs, AreRowsAt, rows_told, digests_told, page_told, page_bytes, nodes_digest, pages_beside}
-use Rattle.merkle_wire.specs.Replies.{IsPartOf, Part, RowsFit, items_over, part_bytes, rows_bytes, root_reply_bytes, part_in_bytes, AnswersFirst, outline_over_bytes}
+use Rattle.merkle_wire.specs.Replies.{IsPartOf, Part, RowsFit, items_over, part_bytes, rows_bytes, root_reply_bytes, part_in_bytes}
 use Rattle.merkle_wire.specs.declared.gaps.OwnedGap.{OwnedGap}
 use Rattle.merkle_wire.specs.declared.nodes.ToldRows.{ToldRows}
 use Rattle.merkle_wire.specs.declared.outlines.Telling.{Telling}
@@ -17,7 +17,7 @@ use Rattle.merkle_bytes.specs.Reading.{Reads}
 use Rattle.merkle_bytes.specs.declared.reader.Reader.{Reader}
 use Rattle.merkle_wire.specs.Coming.{AscendIn, OutlinesCome}
 use Rattle.merkle_wire.specs.Gaps.{owned_gap}
-use Rattle.merkle_wire.specs.Taking.{AreBehind, IsBehind, AddsRows, AreTaken, IsRootTaken, ValuesCome, PartsCome, AsksAgain, AreNewGaps}
+use Rattle.merkle_wire.specs.Taking.{AreBehind, IsBehind, AddsRows, AreTaken, IsRootTaken, ValuesCome, PartsCome, AsksAgain}
 use Rattle.merkle_wire.specs.declared.coming.OutlineRead.{OutlineRead}
 use Rattle.merkle_wire.specs.declared.coming.OutlineRead.TheVariants.{Rows, Digests, Page}
 use Rattle.merkle_wire.specs.declared.message.Kind.TheVariants.{Outlines as outlines_kind, Nodes as nodes_kind}
@@ -29,7 +29,6 @@ use Rattle.merkle_wire.specs.declared.wanted.Wanted.{Wanted}
 use Rattle.merkle_replica.specs.Laws.{Laws}
 use Rattle.merkle_tree_theory.specs.Gap.{Gap}
 use Rattle.merkle_wire.specs.Underway.{Found}
-use Rattle.merkle_wire.specs.declared.message.Kind.{Kind}
 use Rattle.merkle_tree_theory.specs.Outline.{Item}
 
 -- the bytes of the value at a key are added where there is one, and nothing where there is none
@@ -65,10 +64,6 @@ module _ {K V : Type 0} (cmp : K → K → Ordering) (encoding : K → List ℕ)
 -- what is told of the page over a gap is written
 abbrev pub TellsPage : {K V H : Type 0} → (K → K → Ordering) → (K → List ℕ) → (K → List ℕ) → (V → List ℕ) → Contents K V H → Telling → OwnedGap K → Vec ℕ → Vec ℕ → Type 0
 TellsPage cmp bytes_of encoding values side telling gap = AddsTold encoding values (IsTold cmp side.rows telling.with_pages (items_over cmp bytes_of side.tree gap)) gap.after
-
--- a reply of this kind tells of the pages over the first of the gaps
-abbrev pub TellsPages : {K V H : Type 0} → (K → K → Ordering) → (K → List ℕ) → (K → List ℕ) → (V → List ℕ) → Contents K V H → Telling → Kind → List (OwnedGap K) → List ℕ → Type 0
-TellsPages cmp bytes_of encoding values side telling kind = AnswersFirst kind (outline_over_bytes encoding values) (λ g. IsTold cmp side.rows telling.with_pages (items_over cmp bytes_of side.tree g))
 
 -- nodes that were read, each as its key and the digest of its value
 abbrev pub nodes_read : {K : Type 0} → List (Wanted K × Bor (List ℕ)) → List (K × List ℕ)
@@ -120,10 +115,6 @@ module _ {K V : Type 0} (cmp : K → K → Ordering) (encoding : K → List ℕ)
 -- gaps of pages are added, of which P holds
 abbrev pub AddsGaps : {K V : Type 0} → (List (Gap K) → Type 0) → Found K V → Found K V → Type 0
 AddsGaps P before after = (gaps : List _) × P gaps × (after ≡ record before { below = before.below ++ gaps })
-
--- so are those into which the keys of a page part a gap
-abbrev pub AddsGapsBeside : {K V H : Type 0} → Laws K V H → Side K V H → Gap K → List (Option (List ℕ) × Wanted K) → Option (List ℕ) → Found K V → Found K V → Type 0
-AddsGapsBeside laws local gap below last = AddsGaps (AreNewGaps laws local gap (below_keys below) (digests_beside below last))
 
 -- what a reply told is taken: what the side doesn't have is added to what was found
 abbrev pub IsReplyTaken : {K V H : Type 0} → Laws K V H → Side K V H → Reply K V → Found K V → Found K V → Type 0

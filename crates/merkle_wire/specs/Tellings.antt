@@ -6,8 +6,8 @@ use Rattle.key_order.specs.Map.{get}
 use Rattle.merkle_replica.specs.Contents.{Contents}
 use Rattle.merkle_replica.specs.Laws.{Laws}
 use Rattle.merkle_wire.specs.Messages.{front}
-use Rattle.merkle_wire.specs.Replies.{AnswersFirst, IsAnsweredBy, IsPartOf, IsReply, RowsFit, TellsWhatFits, part_in_bytes, root_page_digest, root_reply_bytes, value_at_bytes}
-use Rattle.merkle_wire.specs.Steps.{TellsPages}
+use Rattle.merkle_wire.specs.Outlines.{IsTold}
+use Rattle.merkle_wire.specs.Replies.{AnswersFirst, IsAnsweredBy, IsPartOf, IsReply, RowsFit, TellsWhatFits, items_over, outline_over_bytes, part_in_bytes, root_page_digest, root_reply_bytes, value_at_bytes}
 use Rattle.merkle_wire.specs.declared.gaps.OwnedGap.{OwnedGap}
 use Rattle.merkle_wire.specs.declared.message.Kind.{Kind}
 use Rattle.merkle_wire.specs.declared.message.Kind.TheVariants.{RowsAt, RowsIn}
@@ -30,7 +30,8 @@ TellsRoot bytes_of side reply = reply.items ≡ root_reply_bytes (length side.ro
 
 -- a reply of this kind tells of the pages over the first of the gaps
 abbrev pub TellsOutlines : {K V H : Type 0} → (K → K → Ordering) → (K → List ℕ) → (K → List ℕ) → (V → List ℕ) → Contents K V H → Telling → Kind → List (OwnedGap K) → Vec ℕ → Type 0
-TellsOutlines cmp bytes_of encoding values side telling kind gaps reply = TellsPages cmp bytes_of encoding values side telling kind gaps reply.items
+TellsOutlines cmp bytes_of encoding values side telling kind gaps reply =
+    AnswersFirst kind (outline_over_bytes encoding values) (λ g. IsTold cmp side.rows telling.with_pages (items_over cmp bytes_of side.tree g)) gaps reply.items
 
 -- a reply tells the values at the first of the keys
 abbrev pub TellsValues : {K V : Type 0} → (K → K → Ordering) → (V → List ℕ) → List (K × V) → List (Wanted K) → Vec ℕ → Type 0

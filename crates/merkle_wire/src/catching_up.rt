@@ -2,7 +2,7 @@
 ghost use Rattle.std.specs.Prelude.{◌≡◌, ◌≤◌, IfOk, IfErr, IfSome, length, ℕ, ◌⊎◌};
 ghost use Rattle.merkle_replica.specs.Contents.{side};
 ghost use Rattle.merkle_tree_theory.specs.State.{SameSettings};
-ghost use Rattle.merkle_wire.specs.ByDigests.{IsStoppedBy};
+ghost use Rattle.merkle_wire.specs.ByDigests.{IsStoppedWith};
 ghost use Rattle.merkle_wire.specs.Underway.{nothing};
 ghost use Rattle.merkle_wire.specs.ItsRows.{ForRowsOf, digests_of};
 ghost use Rattle.merkle_wire.specs.Limits.{Allows};
@@ -262,7 +262,7 @@ impl<K: Key + Decode, V: Join + Decode> CatchingUp<K, V> {
         ensures few { IfOk result (IfAsks (λ session. session.rounds ≤ 256)) }
         ensures limits { IfOk result (StaysWithin self (length reply.now)) }
         ensures asked_for { T.is_sound tree.new → IfOk result (λ next. ForRowsOf H.laws (T.kept tree.old).digests (λ local. OnlyAskedFor K.cmp self next)) }
-        ensures ended { T.is_sound tree.new → IfErr result (IsStoppedBy H.laws (T.kept tree.old).digests N K.encoding V.encoding
+        ensures ended { T.is_sound tree.new → IfErr result (IsStoppedWith H.laws (T.kept tree.old).digests N K.encoding V.encoding
             K.is_value V.is_value self reply.now) }
         ensures kept { T.is_sound tree.new → T.kept tree.new ≡ T.kept tree.old }
         ensures steady { T.is_sound tree.new → T.is_sound tree.old }

@@ -2,9 +2,9 @@
 ghost use Rattle.std.specs.Prelude.{◌≡◌, OnOk};
 ghost use Rattle.merkle_wire.specs.Gaps.{between, owned_gap};
 ghost use Rattle.merkle_wire.specs.ItsRows.{ForRowsOf};
-ghost use Rattle.merkle_wire.specs.ByDigests.{AddsNewGap, AddsNewGapsBeside, TakesOutlines, TakesPage};
+ghost use Rattle.merkle_wire.specs.ByDigests.{AddsNewGap, AddsNewGapsBeside, TakesPage};
 ghost use Rattle.merkle_wire.specs.Steps.{nodes_read, as_told, outlines_read, IsReplyTaken};
-ghost use Rattle.merkle_wire.specs.Taking.{AddsRows, IsRootTaken, AddsKeys};
+ghost use Rattle.merkle_wire.specs.Taking.{AddsRows, AreTaken, IsRootTaken, AddsKeys};
 
 use crate::coming::{NodeRead, OutlineRead, PageRead};
 use crate::gaps::OwnedGap;
@@ -94,8 +94,8 @@ fn take_outlines<
     T: KeptTree<N, K, V, H>,
     const N: usize,
 >(tree: &mut T, told: Vec<OutlineOver<'_, K, V>>, work: &mut Work<K, V>) -> Result<(), T::Error>
-    ensures taken { T.is_sound tree.new → OnOk result (TakesOutlines H.laws (T.kept tree.old).digests (outlines_read told.entry.items)
-        work.old work.new) }
+    ensures taken { T.is_sound tree.new → OnOk result (ForRowsOf H.laws (T.kept tree.old).digests
+        (λ s. AreTaken H.laws s (outlines_read told.entry.items) work.old work.new)) }
     ensures kept { T.is_sound tree.new → T.kept tree.new ≡ T.kept tree.old }
     ensures steady { T.is_sound tree.new → T.is_sound tree.old }
 {
