@@ -1,9 +1,11 @@
 //! A command on the file of a store.
-ghost use Rattle.std.specs.Prelude.{◌≡◌, ◌≢◌, [], string_bytes};
+ghost use Rattle.std.specs.Prelude.{◌≡◌, ◌≢◌, [], false, string_bytes};
 ghost use Rattle.store_file.specs.Entries.{HoldsEntries};
 ghost use Rattle.mst_commands.specs.Carries.{Carries};
 ghost use Rattle.mst_words.specs.declared.command.StoreCommand.TheVariants.{Table};
-ghost use Rattle.store_file.specs.Logs.{Finds, Leaves, Makes, OnlyReads};
+ghost use Rattle.store_file.specs.Changes.{WritesByNow};
+ghost use Rattle.store_file.specs.Logs.{Finds, IsSteady, Leaves, Makes, OnlyReads};
+ghost use Rattle.mst.specs.Naming.{BeginsToCarry, CarriesBy, IsNewlyNamed, names_first, writes_by_name as is_by_name};
 
 use crate::fault::Failure;
 use merkle_digest::RootHash;
@@ -64,7 +66,9 @@ pub fn print_end(
 }
 
 /// Whether a command writes by the store's name.
-fn writes_by_name(command: StoreCommand<'_>) -> bool {
+fn writes_by_name(command: StoreCommand<'_>) -> bool
+    ensures { result ≡ is_by_name command.entry }
+{
     matches!(
         command,
         StoreCommand::Table(
@@ -82,6 +86,9 @@ pub fn name_store<S: Trees>(
     note: &mut Note,
 ) -> Result<(), Failure>
     ensures kept { string_bytes note.old.writer ≢ [] → (log.new ≡ log.old) × (note.new ≡ note.old) }
+    ensures named { string_bytes note.old.writer ≡ [] → Makes S.Store log.old log.new result (WritesByNow (string_bytes note.new.writer)) }
+    ensures steady { IsSteady S.Store log.old log.new }
+    ensures crash { Leaves S.Store log.old log.new IsNewlyNamed }
 {
     if note.writer.is_empty() {
         let name = random_name(rt)?;
@@ -101,6 +108,7 @@ fn run_on_table<S: Trees>(
 ) -> Result<(), Failure>
     ensures carried { Makes S.Store log.old log.new result (Carries (Table command.entry) (string_bytes note.now.writer) input) }
     ensures crash { Leaves S.Store log.old log.new (Carries (Table command.entry) (string_bytes note.now.writer) input) }
+    ensures steady { IsSteady S.Store log.old log.new }
 {
     run::run(rt, log, note.writer.as_str(), command, input)?;
     if let TableCommand::Status { json } | TableCommand::Check { json } = command {
@@ -120,6 +128,7 @@ fn run_open<S: Trees>(
 ) -> Result<(), Failure>
     ensures carried { Makes S.Store log.old log.new result (Carries command.entry (string_bytes note.now.writer) input) }
     ensures crash { Leaves S.Store log.old log.new (Carries command.entry (string_bytes note.now.writer) input) }
+    ensures steady { IsSteady S.Store log.old log.new }
 {
     match command {
         StoreCommand::Table(command) => run_on_table(rt, log, note, command, input)?,
@@ -137,7 +146,10 @@ pub fn run_named<S: Trees>(
     command: StoreCommand<'_>,
     input: Input,
 ) -> Result<(), Failure>
-    ensures kept { string_bytes note.old.writer ≢ [] → note.new ≡ note.old }
+    ensures kept { names_first command.entry (string_bytes note.old.writer) ≡ false → note.new ≡ note.old }
+    // It is carried out by the name that the note then has.
+    ensures carried { Makes S.Store log.old log.new result (CarriesBy command.entry (string_bytes note.old.writer) input (string_bytes note.new.writer)) }
+    ensures crash { Leaves S.Store log.old log.new (BeginsToCarry command.entry (string_bytes note.old.writer) input) }
 {
     if writes_by_name(command) {
         name_store(rt, log, note)?;
