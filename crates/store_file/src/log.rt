@@ -73,7 +73,7 @@ pub(crate) fn commit<S: Store>(
     ensures log { IsLog S.Store trees.new }
     // Of whatever log the trees were before the call.
     ensures written { (begun : S) → IsLog S.Store begun → CommitsNothing S.Store begun trees.old
-        → Writes S.Store begun trees.new result (λ _ new. WereWritten S.Store trees.old written new) }
+        → Writes S.Store begun trees.new result (WereWritten S.Store trees.old written) }
     ensures steady { IsSteady S.Store trees.old trees.new }
     ensures late { IsErrOf result StoreFault.Time → IsErrOf written StoreFault.Time }
     ensures foreign { IsErrOf result StoreFault.Foreign → IsErrOf written StoreFault.Foreign }
