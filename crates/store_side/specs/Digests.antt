@@ -1,0 +1,30 @@
+-- The latest registers of a log, by their digests under a hash key.
+use Rattle.std.specs.Prelude.{◌≡◌, ℕ, List, Option, string_bytes}
+use Rattle.std.specs.Option.{option_map}
+use Rattle.key_order.specs.Map.{IsMap, get}
+use Rattle.key_order.specs.Text.{Text, text_order}
+use Rattle.merkle_digest.specs.SipHash.{siphash128}
+use Rattle.sqlite_trees.specs.Tree.{Trees}
+use Rattle.store_file.specs.Latest.{IsLatestAt}
+use Rattle.store_file.specs.RegisterBytes.{register_bytes}
+use Rattle.store_file.specs.declared.register.Register.{Register}
+use Rattle.store_tree.specs.Cells.{KeyDigests}
+use Rattle.store_tree.specs.Texts.{bytes_map}
+
+-- the digest of a register under a hash key
+abbrev pub register_digest : List ℕ → Register → List ℕ
+register_digest hash_key r = siphash128 hash_key (register_bytes r)
+
+-- a row with the digest of its register
+abbrev pub digest_row : List ℕ → Text × Register → Text × List ℕ
+digest_row hash_key row = (row.0, register_digest hash_key row.1)
+
+module _ (hash_key : List ℕ) (trees : Trees) where
+  -- these are the keys of the table's entries, ascending, each with the digest of its latest register
+  pub record AreLatestDigests (pairs : List (Text × List ℕ)) : Type 0 where
+    pub ascending : IsMap text_order pairs
+    pub digests : (key : Text) (found : Option Register) → IsLatestAt trees (string_bytes key) found → get text_order pairs key ≡ option_map (register_digest hash_key) found
+
+  -- the map has the bytes of these keys, each with this digest
+  abbrev pub HoldsDigests : KeyDigests → Type 0
+  HoldsDigests m = (pairs : List (Text × List ℕ)) × AreLatestDigests pairs × (m ≡ bytes_map pairs)

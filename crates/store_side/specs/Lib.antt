@@ -1,0 +1,2 @@
+pub mod DigestLaws
+pub mod Digests
