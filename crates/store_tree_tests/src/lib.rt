@@ -5,4 +5,5 @@
 mod loaded_maps;
 #[cfg(test)]
 mod random_maps;
+pub mod same;
 pub mod sorted_rows;

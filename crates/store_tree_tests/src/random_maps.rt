@@ -1,8 +1,9 @@
 //! Random writes to a table of cells, after which it tells what a tree in memory tells of the same map.
+use crate::same::{are_items, is_digest, lent};
 use crate::sorted_rows::SortedRows;
 use merkle_digest::{PageDigest, SipHasher, ValueDigest, level};
 use merkle_search_tree::builder::{Builder, PageFormat};
-use merkle_search_tree::{Gap, MerkleSearchTree, OutlineItem};
+use merkle_search_tree::{MerkleSearchTree, OutlineItem};
 use sqlite_trees::memory::MemStore;
 use sqlite_trees::schema::Object;
 use sqlite_trees::store::{Shape, Store};
@@ -21,9 +22,6 @@ use store_tree::write::write;
 use test_keys::Random;
 
 type Tree = MerkleSearchTree<String, u64, SipHasher, DIGEST_LEN>;
-
-/// An item of an outline of such a tree.
-type Item<'a> = OutlineItem<'a, DIGEST_LEN, String>;
 
 /// A map three times: as a tree in memory, as rows, and as the gaps of its tree in a store.
 #[derive(Drop)]
@@ -137,57 +135,6 @@ fn has_page(
 ) -> Result<bool, TreeFault> {
     assert!(rt; has_table(&sides.store));
     is_page(alloc, &mut sides.store, &sides.rows, &gap.0, &gap.1, digest)
-}
-
-/// Whether this is the digest of a page that is there, or there is neither.
-fn is_digest(told: &Option<PageDigest>, page: Option<&PageDigest>) -> bool {
-    match (told, page) {
-        (None, None) => true,
-        (Some(own), Some(other)) => *own == *other,
-        _ => false,
-    }
-}
-
-/// Whether two bounds are one key, or there is neither.
-fn is_bound(own: &Option<&String>, other: &Option<&String>) -> bool {
-    match (own, other) {
-        (None, None) => true,
-        (Some(key), Some(bound)) => **key == **bound,
-        _ => false,
-    }
-}
-
-/// Whether two items are the same.
-fn is_item(own: &Item<'_>, other: &Item<'_>) -> bool {
-    match (own, other) {
-        (OutlineItem::Node(key, digest), OutlineItem::Node(own_key, own_digest)) => {
-            **key == **own_key && **digest == **own_digest
-        }
-        (OutlineItem::Page(gap, digest), OutlineItem::Page(own_gap, own_digest)) => {
-            is_bound(&gap.after, &own_gap.after)
-                && is_bound(&gap.before, &own_gap.before)
-                && **digest == **own_digest
-        }
-        _ => false,
-    }
-}
-
-/// Whether two lists have the same items.
-fn are_items(own: &[Item<'_>], other: &[Item<'_>]) -> bool {
-    for (item, wanted) in own.iter().zip(other) {
-        if !is_item(item, wanted) {
-            return false;
-        }
-    }
-    own.len() == other.len()
-}
-
-/// A gap that is lent.
-fn lent(gap: &(Option<String>, Option<String>)) -> Gap<'_, String> {
-    Gap {
-        after: gap.0.as_ref(),
-        before: gap.1.as_ref(),
-    }
 }
 
 /// Whether the same is told over a gap by the table of cells as by the tree.
