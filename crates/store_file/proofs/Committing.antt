@@ -51,17 +51,17 @@ module _ {S A E : Type 0} (g : Ghosts S) (old mid new : S) (call : Result A E) (
 
   -- it succeeded, and what it wrote is committed, or taken back where that fails
   module _ (succeeded : IsOk call) (commit : IsCommit g mid new) where
-    crash : Leaves g old new (WereWritten g mid call)
+    crash : Leaves g old new (λ _ trees. WereWritten g mid call trees)
     crash db left = at (commit.crash db left)
       where
-        at : (((g.view mid).is_broken ≡ false) × (db ≡ trees_of g mid)) ⊎ g.recovers mid db → (IsClean g old × WereWritten g mid call (trees_of g old) db) ⊎ g.recovers old db
+        at : (((g.view mid).is_broken ≡ false) × (db ≡ trees_of g mid)) ⊎ g.recovers mid db → (IsClean g old × WereWritten g mid call db) ⊎ g.recovers old db
         at (inl is) =
             let clean = commit.sound is.0 in
             inl (first (commit_steady g mid new commit) clean, record { succeeded = succeeded; clean = clean; same = is.1 })
         at (inr r) = inr (uncommitted.quiet.outcomes db r)
 
     pub committed : {B F : Type 0} (done : Result B F) → OnOk done (IsClean g new → Commits (g.view mid) (g.view new)) → OnErr done (IsRolledBack (g.view mid) (g.view new))
-        → Writes g old new done (WereWritten g mid call)
+        → Writes g old new done (λ _ trees. WereWritten g mid call trees)
     committed (Ok x) commits undone = record {
       made = λ is. record { succeeded = succeeded; clean = omega (arith, commit.clean, is); same = ap (λ v. v.trees) (commits is).is };
       refused = λ is o. tt;

@@ -16,8 +16,8 @@ module _ {S : Type 0} (g : Ghosts S) where
     pub kept : IsClean g new → KeepsCommitted (g.view old) (g.view new)
     pub quiet : StaysQuiet old new
 
-  -- a call succeeded on a clean disk, and the new trees are those that it left
-  pub record WereWritten {A E : Type 0} (left : S) (call : Result A E) (old new : Trees) : Type 0 where
+  -- a call succeeded on a clean disk, and these are the trees that it left
+  pub record WereWritten {A E : Type 0} (new : S) (call : Result A E) (trees : Trees) : Type 0 where
     pub succeeded : IsOk call
-    pub clean : IsClean g left
-    pub same : new ≡ trees_of g left
+    pub clean : IsClean g new
+    pub same : trees ≡ trees_of g new

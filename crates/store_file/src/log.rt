@@ -72,8 +72,8 @@ pub(crate) fn commit<S: Store>(
     requires tables { IsClean S.Store trees.old → HasTables (S.Store.view trees.old) }
     ensures log { IsLog S.Store trees.new }
     // Of whatever log the trees were before the call.
-    ensures written { (begun : S) → IsLog S.Store begun → CommitsNothing S.Store begun trees.old
-        → Writes S.Store begun trees.new result (WereWritten S.Store trees.old written) }
+    ensures written { (log : S) → IsLog S.Store log → CommitsNothing S.Store log trees.old
+        → Writes S.Store log trees.new result (λ _ new. WereWritten S.Store trees.old written new) }
     ensures steady { IsSteady S.Store trees.old trees.new }
     ensures late { IsErrOf result StoreFault.Time → IsErrOf written StoreFault.Time }
     ensures foreign { IsErrOf result StoreFault.Foreign → IsErrOf written StoreFault.Foreign }
