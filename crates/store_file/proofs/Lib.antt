@@ -3,6 +3,7 @@ pub mod Ascending
 pub mod Calls
 pub mod Committing
 pub mod Compacting
+pub mod FirstKey
 pub mod Grouping
 pub mod Inserting
 pub mod LastRow

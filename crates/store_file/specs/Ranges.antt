@@ -7,6 +7,7 @@ use Rattle.key_order.specs.Map.{IsMap, get}
 use Rattle.sqlite_value.specs.declared.value.Value.TheVariants.{Text as Words, Blob}
 use Rattle.sqlite_value.specs.Order.{Row}
 use Rattle.sqlite_trees.specs.Tree.{Trees}
+use Rattle.store_file.specs.Entries.{entry_row}
 use Rattle.store_file.specs.Latest.{IsLatestAt}
 use Rattle.store_file.specs.declared.register.Register.{Register}
 
@@ -39,3 +40,8 @@ pub record AreLatestBetween (after before : Option Key) (trees : Trees) (rows : 
   pub ascending : IsMap text_order rows
   pub latest : (key : Key) → is_between after before key ≡ true → IsLatestAt trees (string_bytes key) (get text_order rows key)
   pub others : (key : Key) → is_between after before key ≡ false → get text_order rows key ≡ None
+
+-- the first of the table's rows is an entry of this key, or the table has none
+abbrev pub IsFirstKey : Trees → Option Key → Type 0
+IsFirstKey trees None = trees 0 ≡ []
+IsFirstKey trees (Some key) = (r : Register) × (more : List Row) × (trees 0 ≡ entry_row (key, r) ∷ more)

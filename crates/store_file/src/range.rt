@@ -2,7 +2,7 @@
 ghost use Rattle.std.specs.Prelude.{◌≡◌, ◌++◌, ◌∷◌, [], IfOk, IfErr, OnOk};
 ghost use Rattle.store_file.specs.Faults.{IsFailure};
 ghost use Rattle.store_file.specs.Logs.{HasEntryTable, Finds};
-ghost use Rattle.store_file.specs.Ranges.{AreLatestBetween, HasSet, below_bound, row_above};
+ghost use Rattle.store_file.specs.Ranges.{AreLatestBetween, HasSet, IsFirstKey, below_bound, row_above};
 ghost use Rattle.store_file.specs.Transactions.{CommitsNothing};
 ghost use Rattle.store_file.specs.Walks.{MakesView, StaysBut};
 
@@ -11,6 +11,7 @@ use crate::entry::{Entries, entry_of};
 use crate::fault::StoreFault;
 use crate::log::CURSOR;
 use crate::register::Register;
+use crate::walk::look;
 use sqlite_trees::store::{Direction, Store};
 use sqlite_value::row::Row;
 use sqlite_value::value::ValueRef;
@@ -101,4 +102,27 @@ pub fn latest_between<S: Store>(
         set_last(&mut rows, entry)?;
     }
     Err(StoreFault::Malformed)
+}
+
+/// The first key that has an entry, if there is one, within a transaction: it reads what is written and not yet committed too.
+///
+/// It takes a look into a tree, and memory for one row.
+///
+/// # Errors
+///
+/// [`StoreFault::Database`], [`StoreFault::Malformed`] and [`StoreFault::Memory`]. Nothing is rolled back.
+pub fn first_key<S: Store>(alloc: Global, trees: &mut S) -> Result<Option<String>, StoreFault>
+    requires table { HasEntryTable S.Store trees.old }
+    ensures first { Finds S.Store trees.old trees.new result IsFirstKey }
+    ensures failed { IfErr result IsFailure }
+    ensures same { MakesView S.Store trees.old trees.new result StaysBut }
+    ensures uncommitted { CommitsNothing S.Store trees.old trees.new }
+{
+    let none = Row::new(alloc);
+    let mut row = Row::new(alloc);
+    if !look(trees, &none, Direction::Forward, &mut row)? {
+        return Ok(None);
+    }
+    let entry = entry_of(alloc, &row)?;
+    Ok(Some(entry.0))
 }
