@@ -20,11 +20,11 @@ abbrev pub digest_row : List ℕ → Text × Register → Text × List ℕ
 digest_row hash_key row = (row.0, register_digest hash_key row.1)
 
 module _ (hash_key : List ℕ) (trees : Trees) where
-  -- these are the keys of the table's entries, ascending, each with the digest of its latest register
+  -- these pairs ascend, and have for each key the digest of the latest register in the table, or nothing where the table has no row of the key
   pub record AreLatestDigests (pairs : List (Text × List ℕ)) : Type 0 where
     pub ascending : IsMap text_order pairs
     pub digests : (key : Text) (found : Option Register) → IsLatestAt trees (string_bytes key) found → get text_order pairs key ≡ option_map (register_digest hash_key) found
 
-  -- the map has the bytes of these keys, each with this digest
+  -- the map is such pairs with the bytes of their keys
   abbrev pub HoldsDigests : KeyDigests → Type 0
   HoldsDigests m = (pairs : List (Text × List ℕ)) × AreLatestDigests pairs × (m ≡ bytes_map pairs)
