@@ -1,2 +1,5 @@
+pub mod Asked
 pub mod DigestLaws
 pub mod Digests
+pub mod FileTrees
+pub mod Sides

@@ -1,4 +1,5 @@
 //! The latest registers of a log, by their digests under a hash key, as the map of a tree.
+ghost use Rattle.std.specs.Option.{option_map};
 ghost use Rattle.std.specs.Prelude.{◌≡◌, ℕ, List, IfOk, map, string_bytes};
 ghost use Rattle.store_file.specs.Logs.{Finds};
 ghost use Rattle.store_file.specs.Transactions.{CommitsNothing};
@@ -46,11 +47,28 @@ impl LatestDigests {
         }
     }
 
+    /// The hasher.
+    pub(crate) fn hasher(&self) -> &SipHasher
+        ensures { result.now ≡ self.now }
+    {
+        &self.hasher
+    }
+
     /// The digest of a register.
     fn digest(&self, register: &Register) -> ValueDigest<DIGEST_LEN>
         ensures { result ≡ register_digest self.now register.now }
     {
         ValueDigest::new(self.hasher.hash(register))
+    }
+
+    /// The digest of a register, where there is one.
+    pub(crate) fn digest_if(&self, found: &Option<Register>) -> Option<ValueDigest<DIGEST_LEN>>
+        ensures { result ≡ option_map (register_digest self.now) found.now }
+    {
+        match found {
+            None => None,
+            Some(register) => Some(self.digest(register)),
+        }
     }
 
     /// Each key with the digest of its register.

@@ -1,0 +1,139 @@
+-- What calls leave of a store's file that has the tree of its latest registers.
+use Rattle.std.proofs.Common.{◌≡◌, ℕ, Bool, true, false, List, None, option_map, string_bytes, Result, Ok, Err, OnOk, OnErr, IfOk, IsTrue, refl, sym, ap, subst, ◌∙◌, true≢false, arith}
+use Rattle.std.specs.List.{last_or}
+use Rattle.sqlite_value.specs.Order.{Row}
+use Rattle.sqlite_trees.specs.Tree.{Trees}
+use Rattle.sqlite_trees.specs.View.{View, IsRolledBack}
+use Rattle.sqlite_trees.specs.declared.store.Store.{Ghosts}
+use Rattle.store_file.specs.Entries.{entry_row_of}
+use Rattle.store_file.specs.Latest.{rows_of}
+use Rattle.store_file.specs.Logs.{IsClean, IsOpen, trees_of}
+use Rattle.store_file.specs.Transactions.{CommitsNothing, StaysQuiet}
+use Rattle.store_file.specs.Walks.{StaysBut}
+use Rattle.store_tree.specs.Calls.{FindsInTree, SaysPage}
+use Rattle.store_tree.specs.Tables.{KeepsOthers}
+use Rattle.store_tree.specs.Texts.{bytes_map}
+use Rattle.store_tree.specs.declared.table.TheConstants.{CELLS}
+use Rattle.merkle_tree_theory.specs.Gap.{Gap}
+use Rattle.store_side.specs.Digests.{AreLatestDigests, HoldsDigests}
+use Rattle.store_side.specs.FileTrees.{HasTreeOf, IsFileOf, TextDigests, level_of_bytes, SaysFilePage}
+
+-- where no table but that of cells has changed, keys still have the digests of their latest registers
+are_stay : (hash_key : List ℕ) (pairs : TextDigests) (old new : Trees) → KeepsOthers old new → AreLatestDigests hash_key old pairs → AreLatestDigests hash_key new pairs
+are_stay hash_key pairs old new others are = record {
+  ascending = are.ascending;
+  digests = λ key found latest. are.digests key found
+      (subst (λ (rows : List Row). last_or None (rows_of (string_bytes key) rows) ≡ option_map (entry_row_of (string_bytes key)) found) (others 0 (λ same. omega (arith, same))) latest);
+}
+
+module _ (hash_key : List ℕ) (pairs : TextDigests) (gap : Gap (List ℕ)) (digest : List ℕ) (old new : Trees) (is : Bool)
+    (finds : FindsInTree (HoldsDigests hash_key) (SaysPage gap digest) old new is) (has : HasTreeOf hash_key pairs old) where
+  -- a search for a page leaves the tree
+  pub page_stays : KeepsOthers old new → HasTreeOf hash_key pairs new
+  page_stays others = record {
+    digests = are_stay hash_key pairs old new others has.digests;
+    cells = (finds (level_of_bytes hash_key) (bytes_map pairs) has.cells (pairs, has.digests, refl)).0;
+  }
+
+  -- and its answer is of the tree
+  pub page_found : SaysFilePage hash_key gap digest pairs is
+  page_found = (has.digests.ascending, (finds (level_of_bytes hash_key) (bytes_map pairs) has.cells (pairs, has.digests, refl)).1)
+
+-- what is so of a call that succeeds, by its settled result
+same_ok : {A E : Type 0} (P : Type 0) (result done : Result A E) → result ≡ done → OnOk done P → OnOk result P
+same_ok {A} {E} P result done same so = subst (λ (r : Result A E). OnOk r P) (sym same) so
+
+module _ {S : Type 0} (g : Ghosts S) (broken_if_shut : (s : S) → (g.view s).is_open ≡ false → IsTrue (g.view s).is_broken) where
+  -- what isn't broken is opened
+  open_if_sound : (s : S) → (g.view s).is_broken ≡ false → IsOpen g s
+  open_if_sound s sound = by (g.view s).is_open refl
+    where
+      by : (b : Bool) → (g.view s).is_open ≡ b → IsOpen g s
+      by true is = is
+      by false is = absurd (true≢false (sym (broken_if_shut s is) ∙ sound))
+
+  module _ (old mid : S) (uncommitted : CommitsNothing g old mid) where
+    first : IsClean g mid → IsClean g old
+    first clean = omega (arith, uncommitted.quiet.clean, clean)
+
+    module _ (hash_key : List ℕ) (pairs : TextDigests) (was : IsFileOf hash_key pairs g old) where
+      -- after a call that succeeds
+      ok_keeps : (IsClean g old → (g.view old).is_broken ≡ false) → (IsClean g mid → HasTreeOf hash_key pairs (trees_of g old) → HasTreeOf hash_key pairs (trees_of g mid))
+          → IsFileOf hash_key pairs g mid
+      ok_keeps sound stays = record {
+        entries = λ clean. ap (λ shape. shape 0) uncommitted.schema.shape ∙ was.entries (first clean);
+        cells = λ clean. ap (λ shape. shape CELLS) uncommitted.schema.shape ∙ was.cells (first clean);
+        settled = λ clean. uncommitted.schema.shape ∙ was.settled (first clean) ∙ sym uncommitted.schema.committed_shape;
+        shown = λ clean still. stays clean (was.shown (first clean) (sound (first clean)));
+        committed = λ clean opened. subst (λ trees. HasTreeOf hash_key pairs trees) (sym ((uncommitted.kept clean).committed opened))
+            (was.committed (first clean) ((uncommitted.kept clean).was_open opened));
+      }
+
+      -- after an error, once what was written is taken back
+      module _ (new : S) (back : IsRolledBack (g.view mid) (g.view new)) (quiet : StaysQuiet g mid new) where
+        early : IsClean g new → IsClean g mid
+        early clean = omega (arith, quiet.clean, clean)
+
+        shape_kept : IsClean g new → (g.view new).shape ≡ (g.view old).shape
+        shape_kept clean =
+            back.shape (uncommitted.schema.shape ∙ was.settled (first (early clean)) ∙ sym uncommitted.schema.committed_shape) ∙ uncommitted.schema.shape
+
+        mid_open : IsClean g new → IsOpen g new → IsOpen g mid
+        mid_open clean opened = (back.kept clean).was_open opened
+
+        mid_has : IsClean g new → IsOpen g new → HasTreeOf hash_key pairs (g.view mid).committed
+        mid_has clean opened =
+            let kept = uncommitted.kept (early clean) in
+            subst (λ trees. HasTreeOf hash_key pairs trees) (sym (kept.committed (mid_open clean opened)))
+            (was.committed (first (early clean)) (kept.was_open (mid_open clean opened)))
+
+        err_keeps : IsFileOf hash_key pairs g new
+        err_keeps = record {
+          entries = λ clean. ap (λ shape. shape 0) (shape_kept clean) ∙ was.entries (first (early clean));
+          cells = λ clean. ap (λ shape. shape CELLS) (shape_kept clean) ∙ was.cells (first (early clean));
+          settled = λ clean. shape_kept clean ∙ was.settled (first (early clean)) ∙ sym (back.committed_shape ∙ uncommitted.schema.committed_shape);
+          shown = λ clean sound.
+              let opened = open_if_sound new sound in
+              subst (λ trees. HasTreeOf hash_key pairs trees) (sym (back.undone opened).0) (mid_has clean opened);
+          committed = λ clean opened. subst (λ trees. HasTreeOf hash_key pairs trees) (sym ((back.kept clean).committed opened)) (mid_has clean opened);
+        }
+
+    -- a call, whose writes are taken back where it fails
+    module _ {A E : Type 0} (new : S) where
+      pub settled_keeps : (result done : Result A E) → result ≡ done → OnOk result (new ≡ mid) → OnErr result (IsRolledBack (g.view mid) (g.view new)) → OnErr result (StaysQuiet g mid new)
+          → (IsClean g old → (g.view old).is_broken ≡ false) → (hash_key : List ℕ) (pairs : TextDigests)
+          → OnOk done (IsClean g mid → HasTreeOf hash_key pairs (trees_of g old) → HasTreeOf hash_key pairs (trees_of g mid))
+          → IsFileOf hash_key pairs g old → IsFileOf hash_key pairs g new
+      settled_keeps (Ok x) done same kept back quiet sound hash_key pairs stays was =
+          let here = same_ok (IsClean g mid → HasTreeOf hash_key pairs (trees_of g old) → HasTreeOf hash_key pairs (trees_of g mid)) (Ok x) done same stays in
+          subst (λ s. IsFileOf hash_key pairs g s) (sym kept) (ok_keeps hash_key pairs was sound here)
+      settled_keeps (Err why) done same kept back quiet sound hash_key pairs stays was = err_keeps hash_key pairs was new back quiet
+
+      pub settled_clean : (result : Result A E) → OnOk result (new ≡ mid) → OnErr result (StaysQuiet g mid new) → IsClean g new → IsClean g old
+      settled_clean (Ok x) kept quiet clean = first (subst (λ s. IsClean g s) kept clean)
+      settled_clean (Err why) kept quiet clean = first (omega (arith, quiet.clean, clean))
+
+      -- what it found, it found in the tree
+      pub settled_tells : (result done : Result A E) → result ≡ done → OnOk result (new ≡ mid) → (IsClean g old → (g.view old).is_broken ≡ false)
+          → (hash_key : List ℕ) (Found : A → Type 0) (Is : TextDigests → A → Type 0) → (IsClean g mid → IfOk done Found)
+          → ((x : A) → Found x → (pairs : TextDigests) → HasTreeOf hash_key pairs (trees_of g old) → Is pairs x)
+          → IsClean g new → IfOk result (λ x. (pairs : TextDigests) → IsFileOf hash_key pairs g old → Is pairs x)
+      settled_tells (Ok x) done same kept sound hash_key Found Is found tells clean =
+          let mid_clean : IsClean g mid = subst (λ s. IsClean g s) kept clean in
+          let here : Found x = subst (λ (r : Result A E). IfOk r Found) (sym same) (found mid_clean) in
+          λ pairs was. tells x here pairs (was.shown (first mid_clean) (sound (first mid_clean)))
+      settled_tells (Err why) done same kept sound hash_key Found Is found tells clean = tt
+
+-- a call that only moves cursors leaves the tree
+pub reads_stay : {S A E : Type 0} (g : Ghosts S) (old mid : S) (done : Result A E) → OnOk done (IsClean g mid → StaysBut (g.view old) (g.view mid))
+    → (hash_key : List ℕ) (pairs : TextDigests) → OnOk done (IsClean g mid → HasTreeOf hash_key pairs (trees_of g old) → HasTreeOf hash_key pairs (trees_of g mid))
+reads_stay g old mid (Ok x) same hash_key pairs = λ clean has. subst (λ trees. HasTreeOf hash_key pairs trees) (sym (ap (λ (v : View). v.trees) (same clean))) has
+reads_stay g old mid (Err why) same hash_key pairs = tt
+
+-- so does a search for a page
+pub search_stays : {S E : Type 0} (g : Ghosts S) (old mid : S) (done : Result Bool E) (hash_key : List ℕ) (gap : Gap (List ℕ)) (digest : List ℕ)
+    → (IsClean g mid → IfOk done (FindsInTree (HoldsDigests hash_key) (SaysPage gap digest) (trees_of g old) (trees_of g mid)))
+    → (IsClean g mid → OnOk done (KeepsOthers (trees_of g old) (trees_of g mid)))
+    → (pairs : TextDigests) → OnOk done (IsClean g mid → HasTreeOf hash_key pairs (trees_of g old) → HasTreeOf hash_key pairs (trees_of g mid))
+search_stays g old mid (Ok is) hash_key gap digest finds others pairs = λ clean has. page_stays hash_key pairs gap digest (trees_of g old) (trees_of g mid) is (finds clean) has (others clean)
+search_stays g old mid (Err why) hash_key gap digest finds others pairs = tt

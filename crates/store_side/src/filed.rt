@@ -1,0 +1,124 @@
+//! What is asked of a store's file that has the tree of its latest registers.
+ghost use Rattle.std.specs.Prelude.{◌≡◌, IfOk, OnErr, OnOk};
+ghost use Rattle.key_order.specs.Map.{get};
+ghost use Rattle.key_order.specs.Text.{text_order};
+ghost use Rattle.merkle_bytes.specs.Options.{IsOption};
+ghost use Rattle.merkle_search_tree.specs.Items.{bound_of, lent_gap};
+ghost use Rattle.merkle_wire.specs.Sessions.{IsKeyOf};
+ghost use Rattle.sqlite_trees.specs.View.{IsRolledBack};
+ghost use Rattle.store_file.specs.Logs.{IsClean};
+ghost use Rattle.store_file.specs.Transactions.{StaysQuiet};
+ghost use Rattle.store_side.specs.FileTrees.{IsFile, IsPageLacked, IsPageThere, KeepsFile, SaysFilePage, TellsFile};
+ghost use Rattle.store_tree.specs.Pages.{text_gap};
+ghost use Rattle.store_tree.specs.Rows.{bound_bytes};
+
+use crate::asked::{digest_of, some_key};
+use crate::digests::LatestDigests;
+use merkle_digest::{PageDigest, ValueDigest};
+use merkle_search_tree::Gap;
+use sqlite_trees::error::StoreError;
+use sqlite_trees::store::Store;
+use std::alloc::Global;
+use store_tree::TreeFault;
+use store_tree::over::is_page;
+use store_tree::pairs::DIGEST_LEN;
+
+/// After an error takes back what isn't committed.
+fn settle<S: Store, A>(trees: &mut S, done: Result<A, TreeFault>) -> Result<A, TreeFault>
+    ensures same { result ≡ done }
+    ensures kept { OnOk result (trees.new ≡ trees.old) }
+    ensures undone { OnErr result (IsRolledBack (S.Store.view trees.old) (S.Store.view trees.new)) }
+    ensures quiet { OnErr result (StaysQuiet S.Store trees.old trees.new) }
+{
+    if done.is_err() {
+        trees.rollback();
+    }
+    done
+}
+
+/// The first key, if there is one.
+pub(crate) fn find_key<S: Store>(
+    alloc: Global,
+    trees: &mut S,
+    _digests: &LatestDigests,
+) -> Result<Option<String>, TreeFault>
+    requires file { IsFile S.Store _digests.now trees.old }
+    ensures key { TellsFile S.Store _digests.now trees.old trees.new result (λ pairs. IsOption (IsKeyOf text_order pairs)) }
+    ensures kept { KeepsFile S.Store _digests.now trees.old trees.new }
+    ensures steady { IsClean S.Store trees.new → IsClean S.Store trees.old }
+{
+    if trees.is_broken() {
+        return Err(TreeFault::Database(StoreError::Broken));
+    }
+    let found = some_key(alloc, trees);
+    settle(trees, found)
+}
+
+/// The digest of the latest register of a key, where it has one.
+pub(crate) fn find_digest<S: Store>(
+    alloc: Global,
+    trees: &mut S,
+    digests: &LatestDigests,
+    key: &String,
+) -> Result<Option<ValueDigest<DIGEST_LEN>>, TreeFault>
+    requires file { IsFile S.Store digests.now trees.old }
+    ensures digest { TellsFile S.Store digests.now trees.old trees.new result (λ pairs found. found ≡ get text_order pairs key.now) }
+    ensures kept { KeepsFile S.Store digests.now trees.old trees.new }
+    ensures steady { IsClean S.Store trees.new → IsClean S.Store trees.old }
+{
+    if trees.is_broken() {
+        return Err(TreeFault::Database(StoreError::Broken));
+    }
+    let found = digest_of(alloc, trees, digests, key);
+    settle(trees, found)
+}
+
+/// Whether the page over a gap has a digest.
+fn find_page<S: Store>(
+    alloc: Global,
+    trees: &mut S,
+    digests: &LatestDigests,
+    after: &Option<String>,
+    before: &Option<String>,
+    digest: &PageDigest,
+) -> Result<bool, TreeFault>
+    requires file { IsFile S.Store digests.now trees.old }
+    ensures page { TellsFile S.Store digests.now trees.old trees.new result (SaysFilePage digests.now (text_gap after.now before.now) digest.now) }
+    ensures kept { KeepsFile S.Store digests.now trees.old trees.new }
+    ensures steady { IsClean S.Store trees.new → IsClean S.Store trees.old }
+{
+    if trees.is_broken() {
+        return Err(TreeFault::Database(StoreError::Broken));
+    }
+    let found = is_page(alloc, trees, digests, after, before, digest);
+    settle(trees, found)
+}
+
+/// A bound of a gap, in memory of its own.
+fn copy_bound(bound: Option<&String>) -> Result<Option<String>, TreeFault>
+    ensures { IfOk result (λ copy. bound_bytes copy ≡ bound_bytes (bound_of bound.entry)) }
+{
+    match bound {
+        None => Ok(None),
+        Some(key) => Ok(Some(key.clone()?)),
+    }
+}
+
+/// Whether the page that fills a gap has a digest. If no page fills it, another page may have it: the answer is true only if one does.
+pub(crate) fn find_page_at<S: Store>(
+    alloc: Global,
+    trees: &mut S,
+    digests: &LatestDigests,
+    gap: &Gap<'_, String>,
+    digest: &PageDigest,
+) -> Result<bool, TreeFault>
+    requires file { IsFile S.Store digests.now trees.old }
+    ensures there { TellsFile S.Store digests.now trees.old trees.new result (IsPageThere digests.now digest.now) }
+    ensures lacked { TellsFile S.Store digests.now trees.old trees.new result (IsPageLacked digests.now (lent_gap gap.now) digest.now) }
+    ensures kept { KeepsFile S.Store digests.now trees.old trees.new }
+    ensures steady { IsClean S.Store trees.new → IsClean S.Store trees.old }
+{
+    let after = copy_bound(gap.after)?;
+    let before = copy_bound(gap.before)?;
+    find_page(alloc, trees, digests, &after, &before, digest)
+}

@@ -1,0 +1,109 @@
+//! The tree of a store in its file, as a session asks of it.
+ghost use Rattle.std.specs.Prelude.{◌≡◌};
+ghost use Rattle.store_file.specs.Logs.{IsClean};
+ghost use Rattle.store_side.specs.FileTrees.{IsFile};
+ghost use Rattle.store_side.specs.Sides.{kept_in_file};
+
+use crate::digests::LatestDigests;
+use crate::filed::{find_digest, find_key, find_page_at};
+use crate::noted::{Noted, note};
+use merkle_digest::{Digest, Hasher, PageDigest, SipHasher, ValueDigest, default_level_base};
+use merkle_search_tree::Gap;
+use merkle_search_tree::builder::PageFormat;
+use merkle_wire::KeptTree;
+use sqlite_trees::store::Store;
+use std::alloc::Global;
+use std::marker::Model;
+use std::num::NonZeroU8;
+use store_file::Register;
+use store_tree::TreeFault;
+use store_tree::pairs::DIGEST_LEN;
+
+/// The tree of a store in its file, for a session that asks a peer: no tree and no rows in memory. It keeps a hash key, and the trees of the file.
+///
+/// What isn't known of the tree's pages is found out and written, and stays uncommitted. After an error all that isn't committed is taken back.
+pub struct FileTree<S: Store> {
+    alloc: Global,
+    trees: S,
+    digests: LatestDigests,
+    noted: Noted,
+}
+
+impl<S: Store> Model for FileTree<S> {
+    ghost use Rattle.store_side.specs.Sides.{FileSide};
+    ghost use Rattle.store_side.specs.FileTrees.{IsFileOf};
+
+    ghost Value = { FileSide S };
+
+    ghost view = { λ side. record { trees = side.trees; hash_key = side.digests; pairs = side.noted.pairs } };
+
+    ghost invariant = { λ side. IsFileOf side.digests side.noted.pairs S.Store side.trees };
+}
+
+impl<S: Store> FileTree<S> {
+    /// The tree of a store whose file has it.
+    pub fn over(alloc: Global, trees: S, digests: LatestDigests) -> FileTree<S>
+        requires file { IsFile S.Store digests trees }
+        ensures trees { result.trees ≡ trees }
+        ensures hash_key { result.hash_key ≡ digests }
+    {
+        let noted = note(&digests, &trees);
+        FileTree {
+            alloc,
+            trees,
+            digests,
+            noted,
+        }
+    }
+
+    /// The trees, to be committed or rolled back, and closed.
+    pub fn into_trees(self) -> S
+        ensures same { result ≡ self.trees }
+        ensures file { IsFile S.Store self.hash_key result }
+    {
+        let FileTree {
+            alloc: _,
+            trees,
+            digests: _,
+            noted: _,
+        } = self;
+        trees
+    }
+}
+
+/// A look costs what [`LatestDigests`] says, and whether a page is there what [`is_page`](store_tree::over::is_page) says.
+impl<S: Store> KeptTree<DIGEST_LEN, String, Register, SipHasher> for FileTree<S> {
+    type Error = TreeFault;
+
+    ghost kept = { kept_in_file };
+
+    ghost is_sound = { λ side. IsClean S.Store side.trees };
+
+    fn level_base(&self) -> NonZeroU8 {
+        default_level_base()
+    }
+
+    fn page_format(&self) -> PageFormat {
+        PageFormat::V2
+    }
+
+    fn digest_of_key(&self, key: &String) -> Digest<DIGEST_LEN> {
+        self.digests.hasher().hash(key)
+    }
+
+    fn digest_of(&self, value: &Register) -> Digest<DIGEST_LEN> {
+        self.digests.hasher().hash(value)
+    }
+
+    fn some_key(&mut self) -> Result<Option<String>, TreeFault> {
+        find_key(self.alloc, &mut self.trees, &self.digests)
+    }
+
+    fn digest_at(&mut self, key: &String) -> Result<Option<ValueDigest<DIGEST_LEN>>, TreeFault> {
+        find_digest(self.alloc, &mut self.trees, &self.digests, key)
+    }
+
+    fn is_page(&mut self, gap: &Gap<'_, String>, digest: &PageDigest) -> Result<bool, TreeFault> {
+        find_page_at(self.alloc, &mut self.trees, &self.digests, gap, digest)
+    }
+}
