@@ -5,8 +5,9 @@ use Rattle.c_values.specs.Keys.{key_cmp}
 use Rattle.key_order.specs.Map.{get}
 use Rattle.merkle_tree_theory.specs.Gap.{pairs_within}
 use Rattle.merkle_wire.specs.Gaps.{owned_gap}
-use Rattle.merkle_wire.specs.Replies.{TellsFirst, IsPartOf}
+use Rattle.merkle_wire.specs.Replies.{IsPartOf}
 use Rattle.merkle_wire.specs.declared.question.Question.TheVariants.{Root, Outlines, Nodes, RowsAt, RowsIn}
+use Rattle.merkle_wire.proofs.Continued.{TellsFirst}
 use Rattle.c_sides.specs.Agreeing.{ReplyAlike}
 
 -- what is told by one relation is told by another

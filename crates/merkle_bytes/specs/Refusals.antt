@@ -10,6 +10,11 @@ abbrev pub IsMalformed : ReadError → Type 0
 IsMalformed Memory = ⊥
 IsMalformed (Unexpected offset expected) = ⊤
 
+-- what an error says of bytes that were not read: out of memory, or why they are no such value
+abbrev pub unread : {E : Type 0} → E → (ReadError → E) → ReadError → E
+unread memory malformed Memory = memory
+unread memory malformed (Unexpected offset expected) = malformed (Unexpected offset expected)
+
 -- of the rest fewer bytes are left than were expected, or more than none
 abbrev pub Lacks : Expected → List ℕ → Type 0
 Lacks (Bytes count) rest = length rest < count

@@ -5,15 +5,15 @@ use Rattle.std.proofs.lemmas.List.{append_assoc, append-nil, drop-drop, length-a
 use Rattle.key_order.proofs.ListParts.{join_tells}
 use Rattle.merkle_bytes.specs.Counts.{count_bytes, count_some, count_told}
 use Rattle.merkle_bytes.specs.Encodings.{string_encoding}
-use Rattle.merkle_bytes.specs.Refusals.{IsMalformed}
+use Rattle.merkle_bytes.specs.Refusals.{IsMalformed, unread}
 use Rattle.merkle_bytes.specs.declared.error.ReadError.{ReadError}
 use Rattle.merkle_bytes.specs.declared.error.ReadError.TheVariants as read
-use Rattle.merkle_delta.specs.Deltas.{unread_delta, IsStepTaken, Step, step_bytes, chunks_after, given_by, IsStepOver, bytes_from_steps, AreStepsOver}
-use Rattle.merkle_delta.specs.declared.patch.PatchError.TheVariants.{Unlike}
+use Rattle.merkle_delta.specs.Deltas.{IsStepTaken, Step, step_bytes, chunks_after, given_by, IsStepOver, bytes_from_steps, AreStepsOver}
+use Rattle.merkle_delta.specs.declared.patch.PatchError.TheVariants.{Memory, Unlike}
 use Rattle.merkle_bytes.specs.Reading.{BeginsWithNo}
 
 -- bytes are no delta only where they are malformed
-pub malformed_of : (error : ReadError) → unread_delta error ≡ Unlike → IsMalformed error
+pub malformed_of : (error : ReadError) → unread Memory (λ _. Unlike) error ≡ Unlike → IsMalformed error
 malformed_of read.Memory e = absurd cc
 malformed_of (read.Unexpected offset expected) e = tt
 

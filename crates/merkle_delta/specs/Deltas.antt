@@ -5,10 +5,6 @@ use Rattle.std.specs.List.{AllByRecursion, concat, flat_map}
 use Rattle.merkle_bytes.specs.Counts.{count_bytes}
 use Rattle.merkle_bytes.specs.Encodings.{string_encoding}
 use Rattle.merkle_delta.specs.Chunks.{checksum, chunks_of, digest_of}
-use Rattle.merkle_bytes.specs.declared.error.ReadError.{ReadError}
-use Rattle.merkle_bytes.specs.declared.error.ReadError.TheVariants as read
-use Rattle.merkle_delta.specs.declared.patch.PatchError.{PatchError}
-use Rattle.merkle_delta.specs.declared.patch.PatchError.TheVariants as patch
 
 -- a step: this many chunks are passed by, and this many taken after them; or other bytes come
 abbrev pub Step : Type 0
@@ -55,11 +51,6 @@ AreToldApart chunks others = AllByRecursion (λ other. AllByRecursion (λ chunk.
 abbrev pub IsDelta : List ℕ → List ℕ → List ℕ → Type 0
 IsDelta checksums bytes delta = (steps : List Step) × (delta ≡ digest_of bytes ++ flat_map step_bytes steps)
     × ((chunks : List (List ℕ)) → map checksum chunks ≡ checksums → AreToldApart chunks (chunks_of bytes) → AreStepsOver chunks steps × (bytes ≡ bytes_from_steps chunks steps))
-
--- why bytes that were not read are not applied: out of memory, or they are no delta's
-abbrev pub unread_delta : ReadError → PatchError
-unread_delta read.Memory = patch.Memory
-unread_delta (read.Unexpected offset expected) = patch.Unlike
 
 -- this many checksums from a place on are those of the chunks from another on
 abbrev pub HaveChecksums : List ℕ → List (List ℕ) → ℕ → ℕ → ℕ → Type 0

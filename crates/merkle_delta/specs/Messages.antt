@@ -1,7 +1,6 @@
 -- Messages that tell checksums, and replies that are deltas.
-use Rattle.std.specs.Prelude.{◌≡◌, ◌≢◌, ℕ, ◌<◌, ◌^◌, List, ◌∷◌, ◌++◌, Option, Some, None}
+use Rattle.std.specs.Prelude.{◌≡◌, ◌≢◌, ℕ, List, ◌∷◌, ◌++◌, Option, Some, None}
 use Rattle.std.specs.Global.{Vec}
-use Rattle.std.specs.List.{AllByRecursion}
 use Rattle.merkle_bytes.specs.Counts.{count_bytes}
 use Rattle.merkle_bytes.specs.Encodings.{list_bytes}
 use Rattle.merkle_delta.specs.Deltas.{IsDelta, IsDeltaOver}
@@ -18,10 +17,6 @@ IsPlain message = (rest : List ℕ) → message ≢ 1 ∷ 6 ∷ rest
 abbrev pub AsksQuestion : Option (Vec ℕ) → List ℕ → List ℕ → Type 0
 AsksQuestion None question message = (message ≡ question) × IsPlain message
 AsksQuestion (Some checksums) question message = message ≡ asking_bytes checksums.items question
-
--- the message begins as one with checksums, and no checksums are there
-abbrev pub AsksNone : List ℕ → Type 0
-AsksNone message = ((rest : List ℕ) × (message ≡ 1 ∷ 6 ∷ rest)) × ((checksums question : List ℕ) → AllByRecursion (λ c. c < 2 ^ 32) checksums → message ≢ asking_bytes checksums question)
 
 -- the reply is a plain one, or tells it as its delta for the checksums: version 1, kind 134
 abbrev pub IsToldFor : Option (Vec ℕ) → List ℕ → List ℕ → Type 0

@@ -31,9 +31,10 @@ impl From<AllocError> for PatchError {
 }
 
 impl From<ReadError> for PatchError {
-    ghost use Rattle.merkle_delta.specs.Deltas.{unread_delta};
+    ghost use Rattle.merkle_bytes.specs.Refusals.{unread};
+    ghost use Rattle.merkle_delta.specs.declared.patch.PatchError.TheVariants.{Memory, Unlike};
 
-    ghost from_gives = { λ error fault. fault ≡ unread_delta error };
+    ghost from_gives = { λ error fault. fault ≡ unread Memory (λ _. Unlike) error };
 
     fn from(error: ReadError) -> Self {
         match error {

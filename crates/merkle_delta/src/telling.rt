@@ -1,7 +1,8 @@
 //! The answering side: it reads the checksums in a message, and tells its reply as the delta for them.
-ghost use Rattle.std.specs.Prelude.{◌≡◌, IfOk, IfErr};
+ghost use Rattle.std.specs.Prelude.{◌≡◌, ◌≢◌, ◌<◌, ◌^◌, ◌∷◌, ℕ, List, IfOk, IfErr};
+ghost use Rattle.std.specs.List.{AllByRecursion};
 ghost use Rattle.merkle_bytes.specs.Refusals.{IsMalformed};
-ghost use Rattle.merkle_delta.specs.Messages.{AsksNone, AsksQuestion, IsToldFor};
+ghost use Rattle.merkle_delta.specs.Messages.{AsksQuestion, IsToldFor, asking_bytes};
 
 use crate::delta::add_delta;
 use crate::message::{ASKS, TELLS, behind};
@@ -25,7 +26,11 @@ pub fn read_message<'a>(
     message: &'a [u8],
 ) -> Result<(Option<Vec<u32>>, &'a [u8]), ReadError>
     ensures asked { IfOk result (λ asked. AsksQuestion asked.0 asked.1.now message.now) }
-    ensures malformed { IfErr result (λ error. IsMalformed error → AsksNone message.now) }
+
+    // The message begins as one with checksums, and no checksums are there.
+    ensures begins { IfErr result (λ error. IsMalformed error → (rest : List ℕ) × (message.now ≡ 1 ∷ 6 ∷ rest)) }
+    ensures malformed { IfErr result (λ error. IsMalformed error → (sums question : List ℕ) → AllByRecursion (λ c. c < 2 ^ 32) sums
+        → message.now ≢ asking_bytes sums question) }
 {
     let Some(asked) = behind(ASKS, message) else {
         return Ok((None, message));

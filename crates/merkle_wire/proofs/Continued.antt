@@ -2,7 +2,11 @@
 use Rattle.std.proofs.Common.{◌≡◌, ◌≢◌, ℕ, ◌+◌, ◌<◌, ◌≤◌, ◌⊎◌, inl, inr, List, [], ◌∷◌, ◌++◌, length, drop, get_or, map, refl, ap, sym, subst, ◌∙◌, arith}
 use Rattle.std.specs.List.{AllByRecursion, flat_map}
 use Rattle.std.proofs.lemmas.List.{append_assoc, append-nil, drop_all, drop_more}
-use Rattle.merkle_wire.specs.Replies.{TellsFirst, IsFull, TellsWhatFits}
+use Rattle.merkle_wire.specs.Replies.{IsFull, TellsWhatFits}
+
+-- something is told of the first of what was asked for, of one at least, each where P holds of both
+abbrev pub TellsFirst : {X Y : Type 0} → (X → Y → Type 0) → List X → List (X × Y) → Type 0
+TellsFirst {X} P asked told = (left : List X) × (asked ≡ map (λ t. t.0) told ++ left) × (asked ≢ [] → told ≢ []) × AllByRecursion (λ t. P t.0 t.1) told
 
 module _ {X Y : Type 0} (P : X → Y → Type 0) (bytes : X × Y → List ℕ) (Fits : List ℕ → X × Y → Type 0) (most : ℕ) where
   -- a reply that begins so tells of what was asked for what fits, and P holds of each entry

@@ -21,7 +21,7 @@ use Rattle.merkle_wire.specs.Messages.{front}
 use Rattle.merkle_wire.specs.Next.{AsksOrGoesOn, IsNext, IfAsks}
 use Rattle.merkle_wire.specs.Outlines.{Outline, IsTold, nodes_among}
 use Rattle.merkle_wire.specs.Questions.{AsksNothing, IsQuestion, question_bytes}
-use Rattle.merkle_wire.specs.Replies.{TellsFirst, IsPartOf, IsReply, Part, items_over, outline_over_bytes, part_in_bytes}
+use Rattle.merkle_wire.specs.Replies.{IsPartOf, IsReply, Part, items_over, outline_over_bytes, part_in_bytes}
 use Rattle.merkle_wire.specs.Sessions.{CanBeTold, IsKeyOf}
 use Rattle.merkle_wire.specs.Taking.{value_row, AddsRows, AreTaken, PartsCome, AsksAgain, HasTakenReply}
 use Rattle.merkle_wire.specs.declared.catching_up.Next.{Next}
@@ -42,6 +42,7 @@ use Rattle.merkle_wire.proofs.Steady.{AreKeysOf, HasKeysOfSides, IsKeyOfSides}
 use Rattle.merkle_wire.specs.Coming.{OutlinesCome}
 use Rattle.merkle_wire.proofs.Covering.{IsRowOfPeer}
 use Rattle.merkle_wire.proofs.Lacking.{all_whole, new_rows}
+use Rattle.merkle_wire.proofs.Continued.{TellsFirst}
 
 -- a key equal to one of a side's is one of it
 module _ {K V H : Type 0} (laws : Laws K V H) (o : IsTotalOrder laws.cmp) (local peer : Side K V H) where

@@ -24,7 +24,7 @@ use Rattle.merkle_wire.specs.Underway.{Found}
 use Rattle.merkle_wire.specs.Gaps.{owned_gap}
 use Rattle.merkle_wire.specs.Messages.{front}
 use Rattle.merkle_wire.specs.Outlines.{Outline, IsTold, nodes_among}
-use Rattle.merkle_wire.specs.Replies.{TellsFirst, Part, IsReply, IsPartOf, items_over, whole_digest, outline_over_bytes, part_in_bytes, value_at_bytes}
+use Rattle.merkle_wire.specs.Replies.{Part, IsReply, IsPartOf, items_over, whole_digest, outline_over_bytes, part_in_bytes, value_at_bytes}
 use Rattle.merkle_wire.specs.Sessions.{IsFaithfulSession, IsNewRow}
 use Rattle.merkle_wire.specs.Taking.{IsRootTaken, value_row, AddsRows, AreTaken, PartsCome, ValuesCome, AsksAgain, HasTakenReply}
 use Rattle.merkle_wire.specs.declared.gaps.OwnedGap.{OwnedGap}
@@ -42,6 +42,7 @@ use Rattle.merkle_wire.proofs.TellingReplies.{Fits, outlines_tell, parts_tell, v
 use Rattle.merkle_wire.proofs.Covering.{IsAmong, AsksAbout, IsRowOfPeer}
 use Rattle.merkle_wire.specs.Coming.{OutlinesCome}
 use Rattle.merkle_wire.proofs.Lacking.{new_rows}
+use Rattle.merkle_wire.proofs.Continued.{TellsFirst}
 
 -- bytes tell keys and values
 pub record Tell {K V H : Type 0} (laws : Laws K V H) (encoding : K → List ℕ) (values : V → List ℕ) : Type 0 where

@@ -1,9 +1,9 @@
 -- The front of a message tells its kind, and a reply that is not read is none.
 use Rattle.std.proofs.Common.{◌≡◌, ℕ, ◌==◌, cond, List, ◌++◌, refl, sym, ap, ◌∙◌}
-use Rattle.merkle_bytes.specs.Refusals.{IsMalformed}
+use Rattle.merkle_bytes.specs.Refusals.{IsMalformed, unread}
 use Rattle.merkle_bytes.specs.declared.error.ReadError.{ReadError}
 use Rattle.merkle_bytes.specs.declared.error.ReadError.TheVariants as read
-use Rattle.merkle_wire.specs.Faults.{IsRefusedFor, unread}
+use Rattle.merkle_wire.specs.Faults.{IsRefusedFor}
 use Rattle.merkle_wire.specs.Messages.{front, kind_byte}
 use Rattle.merkle_wire.specs.declared.message.Kind.{Kind}
 use Rattle.merkle_wire.specs.declared.message.Kind.TheVariants.{AskRoot, AskOutlines, AskNodes, AskRowsAt, AskRowsIn, Root, Outlines, Nodes, RowsAt, RowsIn, Refusal}

@@ -45,6 +45,7 @@ pub mod Unfit
 pub mod Others
 pub mod Twins
 pub mod SettingsTold
+pub mod OwnKeys
 pub mod Times
 pub mod FilledGaps
 pub mod PagesAt
@@ -68,3 +69,4 @@ pub mod SteadyExchanges
 pub mod SteadySessions
 pub mod Since
 pub mod Lacking
+pub mod ToldAlike

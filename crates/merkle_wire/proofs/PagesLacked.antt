@@ -23,13 +23,14 @@ use Rattle.merkle_tree_theory.proofs.PageOverGap.{filled_opens}
 use Rattle.merkle_tree_theory.proofs.PagesIn.{itself, page_in}
 use Rattle.merkle_wire.specs.SessionLaws.{lacked_in_held, lacked_in_row, lacked_pages}
 use Rattle.merkle_wire.specs.Outlines.{keys_among, nodes_among, pages_beside}
-use Rattle.merkle_wire.specs.Taking.{AreNewGaps, HasPageAt, IsNewGap, IsOneGap}
+use Rattle.merkle_wire.specs.Taking.{AreNewGaps, HasPageAt, IsNewGap}
 use Rattle.merkle_wire.proofs.FilledGaps.{fills-alike}
 use Rattle.merkle_wire.proofs.PagesBelow.{items_in, map_inside, nodes_in}
 use Rattle.merkle_wire.proofs.PartsFilled.{page_canonical, part_before_all, part_behind_all}
 use Rattle.merkle_wire.proofs.SameNodes.{SameFound, over-same}
 use Rattle.merkle_wire.proofs.Times.{total-append}
 use Rattle.merkle_wire.proofs.Steady.{total}
+use Rattle.merkle_wire.proofs.TakenGaps.{IsOneGap}
 
 module _ {K : Type 0} (cmp : K → K → Ordering) (format : PageFormat) (bytes_of : K → List ℕ) (is_there : Gap K → List ℕ → Bool) where
   -- how many a tree has at and below its page over a gap
@@ -116,11 +117,9 @@ module _ {K V H : Type 0} (laws : Laws K V H) (o : IsTotalOrder laws.cmp) (local
     new_lacked g h t new f s (inr (one, lacks)) = by (which (is_there g (page_digest format laws.bytes_of t)))
       where
         count : (new : List (Gap K)) → IsOneGap laws local h new → total (over tree) new ≤ lacked g t
-        count [] e = absurd e
-        count (own ∷ []) e =
+        count new (own, is, e) = subst (λ gs. total (over tree) gs ≤ lacked g t) (sym is) (
             let same = same_gap-trans laws.cmp o g h own s e in
-            omega (arith, lacked_filled own t (fills-alike laws.cmp o g own t tree same f), lacked-same g own t t same (pages-own t))
-        count (own ∷ other ∷ others) e = absurd e
+            omega (arith, lacked_filled own t (fills-alike laws.cmp o g own t tree same f), lacked-same g own t t same (pages-own t)))
 
         by : (is_there g (page_digest format laws.bytes_of t) ≡ false) ⊎ (is_there g (page_digest format laws.bytes_of t) ≡ true) → total (over tree) new ≤ in_held g (below t)
         by (inl n) = rw n (count new one)

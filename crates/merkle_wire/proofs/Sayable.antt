@@ -26,7 +26,7 @@ use Rattle.merkle_wire.specs.Coming.{AscendBetween, AscendIn}
 use Rattle.merkle_wire.specs.Fit.{IsOutlineIn, IsPartIn, Says}
 use Rattle.merkle_wire.specs.Gaps.{owned_gap}
 use Rattle.merkle_wire.specs.Outlines.{Outline, rows_told, digests_told, page_told, IsTold, keys_among, nodes_among, AreRowsAt}
-use Rattle.merkle_wire.specs.Replies.{TellsFirst, IsPartOf, Part}
+use Rattle.merkle_wire.specs.Replies.{IsPartOf, Part}
 use Rattle.merkle_wire.specs.Sessions.{CanBeTold}
 use Rattle.merkle_wire.specs.declared.gaps.OwnedGap.{OwnedGap}
 use Rattle.merkle_wire.specs.declared.wanted.Wanted.{Wanted}
@@ -38,6 +38,7 @@ use Rattle.merkle_wire.proofs.StepCovers.{finds_own}
 use Rattle.merkle_wire.proofs.TellingReplies.{Fits}
 use Rattle.merkle_wire.specs.Messages.{front}
 use Rattle.merkle_wire.specs.declared.message.Kind.{Kind}
+use Rattle.merkle_wire.proofs.Continued.{TellsFirst}
 
 module _ {K : Type 0} (cmp : K → K → Ordering) (o : IsTotalOrder cmp) where
   -- what is above a key that parts a gap, and in the gap, is after the key

@@ -21,7 +21,7 @@ use Rattle.merkle_wire.specs.Gaps.{owned_gap}
 use Rattle.merkle_wire.specs.Messages.{front}
 use Rattle.merkle_wire.specs.Next.{AsksOrGoesOn, IsNext, IfAsks}
 use Rattle.merkle_wire.specs.Outlines.{Outline, rows_told, digests_told, page_told, IsTold, nodes_among}
-use Rattle.merkle_wire.specs.Replies.{TellsFirst, IsPartOf, IsReply, Part, items_over, outline_over_bytes, part_in_bytes}
+use Rattle.merkle_wire.specs.Replies.{IsPartOf, IsReply, Part, items_over, outline_over_bytes, part_in_bytes}
 use Rattle.merkle_wire.specs.Sessions.{IsKeyOf}
 use Rattle.merkle_wire.specs.Taking.{AreBehind, AreTaken, IsBehind, IsRootTaken, IsPageTaken, has_digest, new_keys, AddsRows, PartsCome, AsksAgain, HasTakenReply}
 use Rattle.merkle_wire.specs.declared.catching_up.Next.{Next}
@@ -50,6 +50,7 @@ use Rattle.merkle_wire.proofs.RowsCounted.{ascending_counted, behind_counted, pa
 use Rattle.merkle_wire.proofs.Steady.{AsksForPages, IsFilled, IsSteadyCatchUp, left_by, left_for, left_of, nodes_over, count_in, times_in, total}
 use Rattle.merkle_wire.proofs.Covering.{IsRowOfPeer}
 use Rattle.merkle_wire.proofs.Lacking.{all_whole}
+use Rattle.merkle_wire.proofs.Continued.{TellsFirst}
 
 module _ {K V H : Type 0} (laws : Laws K V H) (o : IsTotalOrder laws.cmp) (eqv : IsEquivalence laws.eq) (encoding : K → List ℕ) (values : V → List ℕ) (tell : Tell laws encoding values) (n : ℕ)
     (local : Side K V H) (peer : Contents K V H) (root : Tree K (List ℕ)) (sides : AreSides laws local (side peer) root peer.tree.root)

@@ -35,7 +35,7 @@ use Rattle.merkle_wire.specs.Gaps.{owned_gap}
 use Rattle.merkle_wire.specs.Messages.{front}
 use Rattle.merkle_wire.specs.Next.{HaveTwins, IsStopped}
 use Rattle.merkle_wire.specs.Outlines.{Outline, rows_told, digests_told, page_told, IsTold, keys_among, nodes_among, outline_bytes, pages_beside}
-use Rattle.merkle_wire.specs.Replies.{TellsFirst, IsPartOf, IsReply, items_over, part_bytes, whole_digest, outline_over_bytes}
+use Rattle.merkle_wire.specs.Replies.{IsPartOf, IsReply, items_over, part_bytes, whole_digest, outline_over_bytes}
 use Rattle.merkle_wire.specs.Sessions.{CanBeTold}
 use Rattle.merkle_wire.specs.Taking.{AreNewGaps, AreTaken, IsRootTaken, IsPageTaken, value_row, AddsRows, PartsCome, ValuesCome, AsksAgain, HasTakenReply}
 use Rattle.merkle_wire.specs.declared.gaps.OwnedGap.{OwnedGap}
@@ -60,6 +60,7 @@ use Rattle.merkle_wire.proofs.TimesTaken.{outlines_times, parts_times, root_time
 use Rattle.merkle_wire.proofs.AskedNext.{AreSteady, IsAgainFit, again_fit, times_again}
 use Rattle.merkle_wire.proofs.Steady.{AsksForPages, IsFilled, IsSteadyCatchUp, times_asked, times_at, times_in, total}
 use Rattle.merkle_wire.specs.declared.limits.Limit.{Limit as LimitOf}
+use Rattle.merkle_wire.proofs.Continued.{TellsFirst}
 
 -- memory ran out, or a limit was reached
 abbrev pub IsMemoryOrLimit : SessionError → Type 0

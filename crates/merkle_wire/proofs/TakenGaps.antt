@@ -1,11 +1,11 @@
 -- The gaps that are asked for: each is the gap that was told of, or it isn't asked for.
 use Rattle.std.specs.Prelude.{⊤}
-use Rattle.std.proofs.Common.{◌≡◌, ℕ, List, [], ◌∷◌, Some, inl, inr, sym, subst, ◌⊎◌}
+use Rattle.std.proofs.Common.{◌≡◌, ℕ, List, [], ◌∷◌, Some, inl, inr, sym, subst, ◌⊎◌, ◌∙◌}
 use Rattle.merkle_replica.specs.Contents.{Side}
 use Rattle.merkle_replica.specs.Descent.{HasPage}
 use Rattle.merkle_replica.specs.Laws.{Laws}
 use Rattle.merkle_tree_theory.specs.Gap.{Gap, SameGap}
-use Rattle.merkle_wire.specs.Taking.{HasNodes, IsNewGap, IsOneGap}
+use Rattle.merkle_wire.specs.Taking.{HasNodes, IsNewGap}
 
 module _ {K V H : Type 0} (laws : Laws K V H) (local : Side K V H) where
   -- a gap, up to equal keys, or none
@@ -14,18 +14,19 @@ module _ {K V H : Type 0} (laws : Laws K V H) (local : Side K V H) where
   IsGapOrNone gap (own ∷ []) = SameGap laws.cmp gap own
   IsGapOrNone gap (own ∷ other ∷ others) = ⊥
 
+  -- the gap alone, up to equal keys
+  abbrev pub IsOneGap : Gap K → List (Gap K) → Type 0
+  IsOneGap gap new = (own : Gap K) × (new ≡ own ∷ []) × SameGap laws.cmp gap own
+
   -- nodes with this digest are those of the page over the gap: `new` is none where the side has all of them, and else the gap
   abbrev pub AreNewNodes : Gap K → List K → List ℕ → List (Gap K) → Type 0
-  AreNewNodes gap keys digest new = ((new ≡ []) × HasNodes laws local keys digest) ⊎ (IsOneGap laws local gap new × ¬ HasNodes laws local keys digest)
+  AreNewNodes gap keys digest new = ((new ≡ []) × HasNodes laws local keys digest) ⊎ (IsOneGap gap new × ¬ HasNodes laws local keys digest)
 
-  one_or_none : (gap : Gap K) (new : List (Gap K)) → IsOneGap laws local gap new → IsGapOrNone gap new
-  one_or_none gap [] one = absurd one
-  one_or_none gap (own ∷ []) one = one
-  one_or_none gap (own ∷ other ∷ others) one = absurd one
+  one_or_none : (gap : Gap K) (new : List (Gap K)) → IsOneGap gap new → IsGapOrNone gap new
+  one_or_none gap new (own, is, same) = subst (IsGapOrNone gap) (sym is) same
 
-  one_is_some : (gap : Gap K) (new : List (Gap K)) → IsOneGap laws local gap new → new ≡ [] → ⊥
-  one_is_some gap [] one e = one
-  one_is_some gap (own ∷ new) one e = cc
+  one_is_some : (gap : Gap K) (new : List (Gap K)) → IsOneGap gap new → new ≡ [] → ⊥
+  one_is_some gap new (own, is, same) none = let never : [] ≡ own ∷ [] = sym none ∙ is in cc
 
   -- the gap of a page
   pub gap_or_none : (gap : Gap K) (d : List ℕ) (new : List (Gap K)) → IsNewGap laws local gap (Some d) new → IsGapOrNone gap new

@@ -1,8 +1,9 @@
 -- Where nothing stands that can be told: what was read of the bytes tells all else that they could say.
 use Rattle.std.proofs.Common.{◌≡◌, ◌≢◌, ℕ, ◌+◌, ◌<◌, Bool, true, false, cond, List, [], ◌∷◌, ◌++◌, append_assoc, append-nil, length, map, Option, Some, None, refl, sym, ap, subst, ◌∙◌, arith, ◌^◌}
 use Rattle.std.proofs.lemmas.List.{length-append, length-map}
+use Rattle.std.proofs.lemmas.List.Concat.{concat_is}
 use Rattle.std.specs.Cmp.{IsTotalOrder}
-use Rattle.std.specs.List.{AllByRecursion, flat_map, AllZip}
+use Rattle.std.specs.List.{AllByRecursion, concat, flat_map, AllZip}
 use Rattle.std.specs.declared.cmp.Ordering.{Ordering}
 use Rattle.key_order.specs.Order.{Same}
 use Rattle.key_order.proofs.ListParts.{join_tells}
@@ -88,14 +89,14 @@ module _ {K : Type 0} (cmp : K → K → Ordering) (o : IsTotalOrder cmp) (encod
       no_nodes-outside not nodes more are e =
           not (ascend-same cmp o (owned_gap gap) (keys_among nodes) keys (behind_keys last keys (keys_among nodes) (flat_map (λ d. d.1) nodes) left rest more read e).0 are.0)
 
-      pub no_nodes-digests : BeginsWithNo (flat_map (λ d. d)) (λ digests. (length digests ≡ (length keys)) × AllByRecursion (λ d. length d ≡ n) digests) rest
+      pub no_nodes-digests : BeginsWithNo concat (λ digests. (length digests ≡ (length keys)) × AllByRecursion (λ d. length d ≡ n) digests) rest
           → BeginsWithNo (nodes_bytes encoding last) (AreNodesIn cmp is_key n (owned_gap gap)) left
       no_nodes-digests none nodes more are e =
           let both = behind_keys last keys (keys_among nodes) (flat_map (λ d. d.1) nodes) left rest more read e in
           none (map (λ d. d.1) nodes) more (
             length-map nodes (λ d. d.1) ∙ sym (length-map nodes (λ d. d.0)) ∙ same_length cmp (keys_among nodes) keys both.0,
             each_digest n nodes are.2,
-          ) (both.1 ∙ ap (λ t. t ++ more) (flat_digests nodes))
+          ) (both.1 ∙ ap (λ t. t ++ more) (flat_digests nodes ∙ sym (concat_is (map (λ d. d.1) nodes))))
 
   module _ (last : List ℕ) (gap : OwnedGap K) (left : List ℕ) where
     module _ (first mid : List ℕ) (read : left ≡ first ++ mid) (long : length first ≡ 16) where
@@ -217,9 +218,9 @@ no_page_digest left none (Some d) rest is e = none true (d ++ rest) e
 
 -- this many digests, one more than were read
 pub no_digests : (n count : ℕ) (left rest : List ℕ) (ds : List (List ℕ)) → left ≡ flat_map (λ d. d) ds ++ rest → AllByRecursion (λ d. length d ≡ n) ds → length ds < count
-    → length rest < n → BeginsWithNo (flat_map (λ d. d)) (λ digests. (length digests ≡ count) × AllByRecursion (λ d. length d ≡ n) digests) left
+    → length rest < n → BeginsWithNo concat (λ digests. (length digests ≡ count) × AllByRecursion (λ d. length d ≡ n) digests) left
 no_digests n count left rest ds read are few short others more (many, long) e =
-    let behind = digests_begin n ds others rest more are long (omega (arith, few, many)) (sym read ∙ e) in omega (arith, short, behind)
+    let behind = digests_begin n ds others rest more are long (omega (arith, few, many)) (sym read ∙ e ∙ ap (λ t. t ++ more) (concat_is others)) in omega (arith, short, behind)
 
 -- this many digests of pages
 pub no_pages : (count : ℕ) (left rest : List ℕ) (ps : List (Option (List ℕ))) → left ≡ pages_bytes ps ++ rest → AllByRecursion IsPageDigest ps → length ps < count

@@ -1,22 +1,18 @@
 -- What is made of what came by digests alone, whatever rows these are the digests of.
-use Rattle.std.specs.Prelude.{◌≡◌, ℕ, List, Bool, Option, ⊤}
+use Rattle.std.specs.Prelude.{ℕ, List, Option, ⊤}
 use Rattle.merkle_replica.specs.Laws.{Laws}
 use Rattle.merkle_tree_theory.specs.Gap.{Gap}
 use Rattle.merkle_wire.specs.ItsRows.{Digests, ForRowsOf}
 use Rattle.merkle_wire.specs.Next.{IsStopped}
 use Rattle.merkle_wire.specs.Outlines.{Outline}
 use Rattle.merkle_wire.specs.Steps.{AddsGaps, below_keys, digests_beside}
-use Rattle.merkle_wire.specs.Taking.{AreNewGaps, IsNewGap, IsPageTaken, has_digest}
+use Rattle.merkle_wire.specs.Taking.{AreNewGaps, IsNewGap, IsPageTaken}
 use Rattle.merkle_wire.specs.Underway.{Found, Underway}
 use Rattle.merkle_wire.specs.declared.session_error.TakeError.{TakeError}
 use Rattle.merkle_wire.specs.declared.session_error.TakeError.TheVariants.{Session, Tree}
 use Rattle.merkle_wire.specs.declared.wanted.Wanted.{Wanted}
 
 module _ {K V H : Type 0} (laws : Laws K V H) (own : Digests K H) where
-  -- this says whether the key is there with the digest of this value
-  abbrev pub SaysIfThere : K → V → Bool → Type 0
-  SaysIfThere key value is = ForRowsOf laws own (λ local. is ≡ has_digest laws local key (laws.value_digest local.hasher value))
-
   -- what was told of the page over a gap is taken
   abbrev pub TakesPage : Gap K → Outline K V → Found K V → Found K V → Type 0
   TakesPage gap told before after = ForRowsOf laws own (λ local. IsPageTaken laws local gap told before after)

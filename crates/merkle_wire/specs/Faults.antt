@@ -2,8 +2,6 @@
 use Rattle.std.specs.Prelude.{ℕ, List, ◌++◌, codes, ⊤}
 use Rattle.std.specs.Fmt.{decimal}
 use Rattle.merkle_bytes.specs.Texts.{read_error_text}
-use Rattle.merkle_bytes.specs.declared.error.ReadError.{ReadError}
-use Rattle.merkle_bytes.specs.declared.error.ReadError.TheVariants as read
 use Rattle.merkle_wire.specs.Limits.{limit_text}
 use Rattle.merkle_wire.specs.declared.answering.AnswerError.{AnswerError}
 use Rattle.merkle_wire.specs.declared.answering.AnswerError.TheVariants as answer
@@ -15,11 +13,6 @@ use Rattle.merkle_wire.specs.declared.session.MessagesError.{MessagesError}
 use Rattle.merkle_wire.specs.declared.session.MessagesError.TheVariants as messages
 use Rattle.merkle_wire.specs.declared.session_error.SessionError.{SessionError}
 use Rattle.merkle_wire.specs.declared.session_error.SessionError.TheVariants as session
-
--- why bytes that were not read are not taken: out of memory, or malformed
-abbrev pub unread : {E : Type 0} → E → (ReadError → E) → ReadError → E
-unread memory malformed read.Memory = memory
-unread memory malformed (read.Unexpected offset expected) = malformed (read.Unexpected offset expected)
 
 -- the bytes are no message: memory was not the reason, nor were settings
 abbrev pub IsUnread : AnswerError → Type 0

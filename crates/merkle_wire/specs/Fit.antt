@@ -16,10 +16,6 @@ use Rattle.merkle_wire.specs.declared.question.Question.TheVariants.{Root, Outli
 use Rattle.merkle_bytes.specs.Reading.{BeginsWithNo}
 use Rattle.merkle_bytes.specs.Runs.{bound_key, run_bytes, row_behind, row_key}
 
--- bytes don't begin with this many digests of n bytes
-abbrev pub NoDigests : ℕ → ℕ → List ℕ → Type 0
-NoDigests n count = BeginsWithNo (flat_map (λ d. d)) (λ digests. (length digests ≡ count) × AllByRecursion (λ d. length d ≡ n) digests)
-
 -- a reply of a kind says something of the first of what was asked for, of one at least, each where P holds of both
 abbrev pub Says : {X Y : Type 0} → Kind → (X × Y → List ℕ) → (X → Y → Type 0) → List X → List ℕ → Type 0
 Says {X} kind bytes P asked reply = (left : List X) × EntriesCome kind bytes P (λ told. ⊤) asked reply left

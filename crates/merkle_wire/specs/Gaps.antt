@@ -1,12 +1,12 @@
 -- Gaps after a key, as bytes.
-use Rattle.std.specs.Prelude.{◌≡◌, ℕ, ◌≤◌, Bool, true, ◌&&◌, List, ◌++◌, length, Option}
+use Rattle.std.specs.Prelude.{◌≡◌, ℕ, Bool, true, ◌&&◌, List, ◌++◌, Option}
 use denote.Ref.{Bor}
-use Rattle.std.proofs.Common.{sym, ap, ap₂, ◌∙◌, arith}
-use Rattle.std.proofs.lemmas.List.{append_assoc, length-append}
+use Rattle.std.proofs.Common.{sym, ap, ap₂, ◌∙◌}
+use Rattle.std.proofs.lemmas.List.{append_assoc}
 use Rattle.std.specs.Option.{option_eq}
 use Rattle.merkle_bytes.specs.Options.{IsOption}
 use Rattle.merkle_bytes.specs.Runs.{bound_behind, bound_key}
-use Rattle.merkle_bytes.specs.RunTelling.{bound_some, bound_told}
+use Rattle.merkle_bytes.specs.RunTelling.{bound_told}
 use Rattle.merkle_search_tree.specs.Items.{bound_of}
 use Rattle.merkle_tree_theory.specs.Gap.{Gap}
 use Rattle.merkle_wire.specs.declared.gaps.OwnedGap.{OwnedGap}
@@ -28,14 +28,10 @@ module _ {K : Type 0} (encoding : K → List ℕ) where
   abbrev pub gap_key : List ℕ → Gap K → List ℕ
   gap_key last g = bound_key encoding (bound_key encoding last g.after) g.before
 
-  pub gap_some : (last : List ℕ) (g : Gap K) → 1 ≤ length (gap_behind last g)
-  gap_some last g = omega (arith, bound_some encoding last g.after, length-append (bound_behind encoding last g.after) (bound_behind encoding (bound_key encoding last g.after) g.before))
-
 abbrev pub HasKeyBounds : {K : Type 0} → (K → Type 0) → Gap K → Type 0
 HasKeyBounds is_key g = IsOption is_key g.after × IsOption is_key g.before
 
-module _ {K : Type 0} (encoding : K → List ℕ) (eq : K → K → Bool)
-    (told : (x y : K) (r s : List ℕ) → encoding x ++ r ≡ encoding y ++ s → (eq x y ≡ true) × (r ≡ s)) where
+module _ {K : Type 0} (encoding : K → List ℕ) (eq : K → K → Bool) (told : (x y : K) (r s : List ℕ) → encoding x ++ r ≡ encoding y ++ s → (eq x y ≡ true) × (r ≡ s)) where
   -- bytes that begin with those of a gap tell its bounds, the last key after it, and what is after it
   pub gap_told : (last : List ℕ) (a b : Gap K) (r s : List ℕ) → gap_behind encoding last a ++ r ≡ gap_behind encoding last b ++ s
       → (option_eq eq a.after b.after && option_eq eq a.before b.before ≡ true) × (gap_key encoding last a ≡ gap_key encoding last b) × (r ≡ s)

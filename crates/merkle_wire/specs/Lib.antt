@@ -17,3 +17,4 @@ pub mod ItsRows
 pub mod Steps
 pub mod ByDigests
 pub mod Tellings
+pub mod ToldAlike

@@ -24,13 +24,10 @@ use Rattle.merkle_wire.specs.ItsRows.{digests_of}
 use Rattle.merkle_wire.specs.Settings.{AreSettingsBy}
 use Rattle.merkle_wire.specs.declared.message.Kind.{Kind}
 
--- something is told of the first of what was asked for, of one at least, each where P holds of both
-abbrev pub TellsFirst : {X Y : Type 0} → (X → Y → Type 0) → List X → List (X × Y) → Type 0
-TellsFirst {X} P asked told = (left : List X) × (asked ≡ map (λ t. t.0) told ++ left) × (asked ≢ [] → told ≢ []) × AllByRecursion (λ t. P t.0 t.1) told
-
--- a reply of a kind tells this of the first of what was asked for, as the bytes of its entries
+-- a reply of a kind tells something of the first of what was asked for, of one at least, each where P holds of both, as the bytes of its entries
 abbrev pub AnswersFirst : {X Y : Type 0} → Kind → (X × Y → List ℕ) → (X → Y → Type 0) → List X → List ℕ → Type 0
-AnswersFirst {X} {Y} kind bytes P asked reply = (told : List (X × Y)) × TellsFirst P asked told × (reply ≡ front kind ++ flat_map bytes told)
+AnswersFirst {X} {Y} kind bytes P asked reply = (told : List (X × Y)) × ((left : List X) × (asked ≡ map (λ t. t.0) told ++ left) × (asked ≢ [] → told ≢ [])
+    × AllByRecursion (λ t. P t.0 t.1) told) × (reply ≡ front kind ++ flat_map bytes told)
 
 -- after these bytes of a reply there is no room for an entry: they are as many as this, and more than the two of the front
 abbrev pub IsFull : ℕ → List ℕ → Type 0

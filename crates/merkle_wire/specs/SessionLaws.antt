@@ -1,5 +1,5 @@
 -- What holds of sessions of messages with a peer that answers by its rows: they bring what is missing, they end, and they cost what is missing.
-use Rattle.std.specs.Prelude.{◌≡◌, ℕ, ◌+◌, ◌*◌, ◌≤◌, ◌↔◌, IsTrue, List, [], ◌∷◌, length, map, Bool, ◌⊎◌, Option, if◌then◌else◌}
+use Rattle.std.specs.Prelude.{◌≡◌, ℕ, ◌+◌, ◌≤◌, ◌↔◌, IsTrue, List, [], ◌∷◌, length, map, Bool, ◌⊎◌, Option, if◌then◌else◌}
 use Rattle.std.specs.Global.{Vec}
 use Rattle.key_order.specs.Join.{IsJoin}
 use Rattle.key_order.specs.Map.{IsMap}
@@ -72,10 +72,6 @@ module _ {K V H : Type 0} (laws : Laws K V H) where
   NoCollisionIsFaithful n = (a b : Side K V H) → AreSetAlike laws a b → DigestTheirValuesAlike laws a b → a.format ≡ V2
       → IsCollisionFree laws n a b → NoNodesCollide laws a b → IsFaithfulSession laws a b
 
-  -- a test decides which pages a side has at their places
-  abbrev pub OwnPagesAreKnown : Type 0
-  OwnPagesAreKnown = (local : Side K V H) → IsMap laws.cmp local.rows → (is_there : Gap K → List ℕ → Bool) × ((g : Gap K) (d : List ℕ) → IsTrue (is_there g d) ↔ HasPageAt laws local g d)
-
 module _ {K V H : Type 0} (laws : Laws K V H) (n : ℕ) (encoding : K → List ℕ) (values : V → List ℕ) where
   -- the peer's reply to what a catch-up asks, as `answer` says of it: it read the same question, up to bytes, and answered by a tree of its map
   pub record IsPeerReply (local peer : Side K V H) (before : Underway K V) (reply : List ℕ) : Type 0 where
@@ -117,11 +113,7 @@ module _ {K V H : Type 0} (laws : Laws K V H) (n : ℕ) (encoding : K → List �
       → (begun last : Underway K V) (settings : Settings K) (more : List (Underway K V)) (rows : Vec (K × V)) → begun.asked ≡ Root settings → begun.found ≡ nothing
       → AreExchangesTo local peer begun more last → IsExchange local peer last (Came rows) → AreBrought laws local peer rows.items
 
-  -- from the first exchange on there are at most three for each row of the peer, and two more
-  abbrev pub SessionsEnd : Type 0
-  SessionsEnd = InSessions (λ local peer begun last more so_far. length more ≤ 3 * length peer.rows + 2)
-
-  -- and an answer of a peer whose rows can be told fails then only when out of memory or at a limit
+  -- an answer of a peer whose rows can be told fails then only when out of memory or at a limit
   abbrev pub AnswersAreTaken : (K → Type 0) → (V → Type 0) → Type 0
   AnswersAreTaken is_key is_value = InSessions (λ local peer begun last more so_far. CanBeTold laws is_key is_value peer
       → (reply : List ℕ) (error : SessionError) → IsPeerReply local peer last reply → IsStopped laws n encoding values is_key is_value local last reply error

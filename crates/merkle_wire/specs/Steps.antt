@@ -7,7 +7,7 @@ use Rattle.key_order.specs.Map.{get}
 use Rattle.merkle_bytes.specs.Encodings.{AddsBytes}
 use Rattle.merkle_bytes.specs.Runs.{bound_key, row_behind}
 use Rattle.merkle_replica.specs.Contents.{Contents, Side}
-use Rattle.merkle_wire.specs.Outlines.{Outline, IsTold, outline_bytes, keys_among, node_pairs, AreRowsAt, rows_told, digests_told, page_told, page_bytes, nodes_digest, pages_beside}
+use Rattle.merkle_wire.specs.Outlines.{Outline, IsTold, outline_bytes, keys_among, node_pairs, AreRowsAt, rows_told, digests_told, page_told}
 use Rattle.merkle_wire.specs.Replies.{IsPartOf, Part, RowsFit, items_over, part_bytes, rows_bytes, root_reply_bytes, part_in_bytes}
 use Rattle.merkle_wire.specs.declared.gaps.OwnedGap.{OwnedGap}
 use Rattle.merkle_wire.specs.declared.nodes.ToldRows.{ToldRows}
@@ -29,7 +29,6 @@ use Rattle.merkle_wire.specs.declared.wanted.Wanted.{Wanted}
 use Rattle.merkle_replica.specs.Laws.{Laws}
 use Rattle.merkle_tree_theory.specs.Gap.{Gap}
 use Rattle.merkle_wire.specs.Underway.{Found}
-use Rattle.merkle_tree_theory.specs.Outline.{Item}
 
 -- the bytes of the value at a key are added where there is one, and nothing where there is none
 abbrev pub AddsValueAt : {K V : Type 0} → (K → K → Ordering) → (V → List ℕ) → List (K × V) → K → Vec ℕ → Vec ℕ → Bool → Type 0
@@ -39,10 +38,6 @@ AddsValueAt cmp values rows key old new false = (get cmp rows key ≡ None) × (
 -- an outline of which P holds is written after a bound
 abbrev pub AddsTold : {K V : Type 0} → (K → List ℕ) → (V → List ℕ) → (Outline K V → Type 0) → Option K → Vec ℕ → Vec ℕ → Type 0
 AddsTold encoding values P after old new = (told : Outline _ _) × P told × AddsBytes old (outline_bytes encoding values (bound_key encoding [] after) told) new
-
--- the bytes of a page with these nodes and items, after a key
-abbrev pub lent_page_bytes : {K : Type 0} → (K → List ℕ) → List ℕ → List (Bor K × Bor (List ℕ)) → List (Item K (List ℕ)) → List ℕ
-lent_page_bytes encoding last nodes list = page_bytes encoding last (nodes_digest (node_pairs nodes)) (keys_among (node_pairs nodes)) (pages_beside None list)
 
 module _ {K V : Type 0} (cmp : K → K → Ordering) (encoding : K → List ℕ) (values : V → List ℕ) (rows : List (K × V)) where
   -- the row at a key is added after the last one, where there is one

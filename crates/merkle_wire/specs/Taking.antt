@@ -60,21 +60,16 @@ module _ {K V H : Type 0} (laws : Laws K V H) (local : Side K V H) where
   HasPageAt gap digest = (root : Tree K (List ℕ)) × (page : Tree K (List ℕ)) × IsTreeOf laws.cmp (laws.key_digest local.hasher) local.base root (tree_map laws local)
       × Fills laws.cmp gap page root × (page_digest local.format laws.bytes_of page ≡ digest)
 
-  -- the gap alone, up to equal keys
-  abbrev pub IsOneGap : Gap K → List (Gap K) → Type 0
-  IsOneGap gap (own ∷ []) = SameGap laws.cmp gap own
-  IsOneGap gap _ = ⊥
-
   -- the digest of the peer's root page is taken: the gap of all keys is added, but where there is none, or the side has a page with this digest
   abbrev pub IsRootTaken : Option (List ℕ) → Found K V → Found K V → Type 0
   IsRootTaken None before after = after ≡ before
   IsRootTaken (Some digest) before after = (HasPage laws local digest × (after ≡ before)) ⊎ ((¬ HasPageAt everywhere digest)
       × ((after ≡ record before { whole = before.whole ++ everywhere ∷ [] }) ⊎ (after ≡ record before { below = before.below ++ everywhere ∷ [] })))
 
-  -- a page with this digest fills the gap: `new` is none where the side has a page with it, and the gap where its own page there hasn't the digest
+  -- a page with this digest fills the gap: `new` is none where the side has a page with it, and the gap, up to equal keys, where its own page there hasn't the digest
   abbrev pub IsNewGap : Gap K → Option (List ℕ) → List (Gap K) → Type 0
   IsNewGap gap None new = new ≡ []
-  IsNewGap gap (Some d) new = ((new ≡ []) × HasPage laws local d) ⊎ (IsOneGap gap new × ¬ HasPageAt gap d)
+  IsNewGap gap (Some d) new = ((new ≡ []) × HasPage laws local d) ⊎ (((own : Gap K) × (new ≡ own ∷ []) × SameGap laws.cmp gap own) × ¬ HasPageAt gap d)
 
   -- `new` are such gaps of those into which the keys part a gap, by the digests of the pages that fill them
   abbrev pub AreNewGaps : Gap K → List K → List (Option (List ℕ)) → List (Gap K) → Type 0
@@ -87,7 +82,8 @@ module _ {K V H : Type 0} (laws : Laws K V H) (local : Side K V H) where
   IsPageTaken gap (rows_told rows) before after = AddsRows rows before after
   IsPageTaken gap (digests_told nodes) before after = AddsKeys nodes before after
   IsPageTaken gap (page_told digest keys pages) before after = (gaps : List (Gap K)) × (nodes : List (Gap K)) × AreNewGaps gap keys pages gaps
-      × (((nodes ≡ []) × HasNodes keys digest) ⊎ (IsOneGap gap nodes × ¬ HasNodes keys digest)) × (after ≡ record before { below = before.below ++ gaps; nodes = before.nodes ++ nodes })
+      × (((nodes ≡ []) × HasNodes keys digest) ⊎ (((own : Gap K) × (nodes ≡ own ∷ []) × SameGap laws.cmp gap own) × ¬ HasNodes keys digest))
+      × (after ≡ record before { below = before.below ++ gaps; nodes = before.nodes ++ nodes })
 
   -- so was what was told of the pages over several gaps
   abbrev pub AreTaken : List (OwnedGap K × Outline K V) → Found K V → Found K V → Type 0

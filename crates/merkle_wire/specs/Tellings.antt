@@ -7,19 +7,14 @@ use Rattle.merkle_replica.specs.Contents.{Contents}
 use Rattle.merkle_replica.specs.Laws.{Laws}
 use Rattle.merkle_wire.specs.Messages.{front}
 use Rattle.merkle_wire.specs.Outlines.{IsTold}
-use Rattle.merkle_wire.specs.Replies.{AnswersFirst, IsAnsweredBy, IsPartOf, IsReply, RowsFit, TellsWhatFits, items_over, outline_over_bytes, part_in_bytes, root_page_digest, root_reply_bytes, value_at_bytes}
+use Rattle.merkle_wire.specs.Replies.{AnswersFirst, IsAnsweredBy, IsPartOf, RowsFit, TellsWhatFits, items_over, outline_over_bytes, part_in_bytes, root_page_digest, root_reply_bytes, value_at_bytes}
 use Rattle.merkle_wire.specs.declared.gaps.OwnedGap.{OwnedGap}
 use Rattle.merkle_wire.specs.declared.message.Kind.{Kind}
 use Rattle.merkle_wire.specs.declared.message.Kind.TheVariants.{RowsAt, RowsIn}
 use Rattle.merkle_wire.specs.declared.outlines.Telling.{Telling}
-use Rattle.merkle_wire.specs.declared.question.Question.{Question}
 use Rattle.merkle_wire.specs.declared.wanted.Wanted.{Wanted}
 
 module _ {K V H : Type 0} (laws : Laws K V H) (n : ℕ) (encoding : K → List ℕ) (values : V → List ℕ) where
-  -- the reply to a question of a side with these rows and this tree
-  abbrev pub IsReplyOfSide : Contents K V H → Question K → Vec ℕ → Type 0
-  IsReplyOfSide side question reply = IsReply laws n encoding values side.rows side.tree question reply.items
-
   -- the message asks a question, and this is the reply to it by the rows before and the tree after
   abbrev pub IsAnsweredOf : Contents K V H → Contents K V H → List ℕ → Vec ℕ → Type 0
   IsAnsweredOf before after message reply = IsAnsweredBy laws n encoding values before.rows after.tree message reply

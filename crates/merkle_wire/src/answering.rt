@@ -4,7 +4,7 @@ ghost use Rattle.merkle_tree_theory.specs.State.{SameSettings, map_of};
 ghost use Rattle.merkle_wire.specs.Faults.{IsUnread, OfMessage, answer_error_text, AreOtherSettings};
 ghost use Rattle.merkle_wire.specs.Questions.{AsksNothing};
 ghost use Rattle.merkle_wire.specs.Replies.{EndsWithin, IsAnsweredBy, IsAnsweredWithin, AsksWithOthers, IsReply, TellsSettings};
-ghost use Rattle.merkle_wire.specs.Tellings.{IsAnsweredOf, IsReplyOfSide, TellsRoot};
+ghost use Rattle.merkle_wire.specs.Tellings.{IsAnsweredOf, TellsRoot};
 
 use crate::kept_side::KeptSide;
 use crate::message::{Kind, begin};
@@ -13,7 +13,6 @@ use crate::pages::encode_page;
 use crate::question::{Question, decode_question};
 use crate::rows_at::tell_values;
 use crate::rows_in::tell_rows;
-use crate::settings::agree;
 use merkle_bytes::{Decode, Encode, ReadError, encode_count};
 use merkle_digest::Key;
 use merkle_replica::{Join, Replica, RowHasher};
@@ -55,7 +54,7 @@ impl<T: Drop> From<AllocFailed<T>> for AnswerError {
 }
 
 impl From<ReadError> for AnswerError {
-    ghost use Rattle.merkle_wire.specs.Faults.{unread};
+    ghost use Rattle.merkle_bytes.specs.Refusals.{unread};
     ghost use Rattle.merkle_wire.specs.declared.answering.AnswerError.TheVariants.{Malformed, Memory};
 
     ghost from_gives = { λ error fault. fault ≡ unread Memory Malformed error };
@@ -232,7 +231,8 @@ fn reply_to<
     most_bytes: usize,
 ) -> Result<Vec<u8>, KeptError<S::Error>>
     requires hashed { S.is_sound side.old → IsSome (S.contents side.old beside.now).tree.root_hash }
-    ensures reply { S.is_sound side.new → IfOk result (IsReplyOfSide H.laws N K.encoding V.encoding (S.contents side.old beside.now) question.now) }
+    ensures reply { let s = S.contents side.old beside.now in S.is_sound side.new
+        → IfOk result (λ r. IsReply H.laws N K.encoding V.encoding s.rows s.tree question.now r.items) }
     ensures within { S.is_sound side.new → IfOk result (λ reply. EndsWithin K.encoding V.encoding most_bytes question.now reply.items) }
     ensures read { IfErr result (OfMessage (λ error. ¬ IsUnread error)) }
     ensures others { IfErr result (OfMessage (λ error. AreOtherSettings error → ¬ TellsSettings H.laws N (S.contents side.new beside.now).tree question.now)) }
@@ -286,7 +286,8 @@ fn tell<
 ) -> Result<Vec<u8>, S::Error>
     requires hashed { S.is_sound side.old → IsSome (S.contents side.old beside.now).tree.root_hash }
     requires settings { TellsSettings H.laws N (S.contents side.old beside.now).tree question.now }
-    ensures reply { S.is_sound side.new → IfOk result (IsReplyOfSide H.laws N K.encoding V.encoding (S.contents side.old beside.now) question.now) }
+    ensures reply { let s = S.contents side.old beside.now in S.is_sound side.new
+        → IfOk result (λ r. IsReply H.laws N K.encoding V.encoding s.rows s.tree question.now r.items) }
     ensures within { S.is_sound side.new → IfOk result (λ reply. EndsWithin K.encoding V.encoding most_bytes question.now reply.items) }
     ensures kept { S.is_sound side.new → S.contents side.new beside.now ≡ S.contents side.old beside.now }
     ensures steady { S.is_sound side.new → S.is_sound side.old }

@@ -15,12 +15,12 @@ ghost use Rattle.std.specs.Global.{Vec};
 ghost use Rattle.merkle_wire.specs.declared.gaps.OwnedGap.{OwnedGap};
 
 use crate::answering::own_reply;
-use crate::kept_tree::KeptTree;
+use crate::kept_tree::{KeptTree, first_key, first_row_key};
 use crate::limits::Limits;
 use crate::question::{Question, encode_question};
 use crate::replies::read_reply;
 use crate::session_error::{SessionError, TakeError};
-use crate::settings::{Settings, settings_by, settings_of};
+use crate::settings::{Settings, settings_of, settings_with};
 use crate::taking::take_reply;
 use crate::within::rows_ascend;
 use crate::work::Work;
@@ -108,7 +108,8 @@ impl<K: Key + Decode, V: Join + Decode> CatchingUp<K, V> {
         ensures keys { IfOk result (λ begun. IsQuestion (IsKeyOf K.cmp replica.now.rows) begun.0.asked) }
         ensures nothing { IfOk result (λ begun. (begun.0.found ≡ nothing) × (begun.0.rounds ≡ 0)) }
     {
-        Self::begin_of(alloc, replica.tree())
+        let key = first_row_key(replica)?;
+        begin(alloc, settings_with(alloc, replica, key)?)
     }
 
     /// Begins a catch-up of a side whose rows are kept anywhere, with the tree of their digests in memory. Returns it with the first message, which has
@@ -129,7 +130,8 @@ impl<K: Key + Decode, V: Join + Decode> CatchingUp<K, V> {
 
         ensures nothing { IfOk result (λ begun. (begun.0.found ≡ nothing) × (begun.0.rounds ≡ 0)) }
     {
-        begin(alloc, settings_of(alloc, tree)?)
+        let key = first_key(tree)?;
+        begin(alloc, settings_with(alloc, tree, key)?)
     }
 
     /// Begins a catch-up of a side whose rows and whose tree are kept anywhere. Returns it with the first message, which has the settings of the tree.
@@ -153,7 +155,7 @@ impl<K: Key + Decode, V: Join + Decode> CatchingUp<K, V> {
         ensures kept { T.is_sound tree.new → T.kept tree.new ≡ T.kept tree.old }
         ensures steady { T.is_sound tree.new → T.is_sound tree.old }
     {
-        let settings = settings_by(alloc, tree)?;
+        let settings = settings_of(alloc, tree)?;
         Ok(begin(alloc, settings)?)
     }
 

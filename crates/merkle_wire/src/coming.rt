@@ -1,6 +1,6 @@
 //! What came of a page, of a value or of the rows in a gap, as it is read.
 ghost use Rattle.std.specs.Prelude.{◌≡◌, ◌≢◌, ◌++◌, Option, [], length, ◌+◌, map, flat_map, OnOk, IfOk, IfErr, List, false};
-ghost use Rattle.std.specs.List.{AllByRecursion};
+ghost use Rattle.std.specs.List.{AllByRecursion, concat};
 ghost use Rattle.merkle_bytes.specs.Options.{IsOption, option_bytes};
 ghost use Rattle.merkle_bytes.specs.Reading.{BeginsWithNo, Reads};
 ghost use Rattle.merkle_bytes.specs.Runs.{bound_key, row_behind, row_key, run_bytes};
@@ -9,7 +9,7 @@ ghost use Rattle.merkle_wire.specs.Faults.{IsRefusedFor};
 ghost use Rattle.merkle_wire.specs.Gaps.{owned_gap};
 ghost use Rattle.merkle_wire.specs.Outlines.{keys_among, outline_bytes, pages_bytes, nodes_bytes, page_bytes};
 ghost use Rattle.merkle_wire.specs.Steps.{ReadsPart, below_keys, digests_beside, nodes_read, as_told};
-ghost use Rattle.merkle_wire.specs.Fit.{AreNodesIn, NoPage, NoOutline, NoRows, NoPart, NoDigests};
+ghost use Rattle.merkle_wire.specs.Fit.{AreNodesIn, NoPage, NoOutline, NoRows, NoPart};
 ghost use Rattle.merkle_wire.specs.Taking.{value_row, IsBehind};
 
 use crate::gaps::OwnedGap;
@@ -20,6 +20,7 @@ use crate::within::{keys_lie_in, rows_lie_in};
 use merkle_bytes::{Decode, Expected, KeyRun, Reader, decode_run};
 use merkle_digest::{Key, PageDigest};
 use merkle_replica::Join;
+use std::alloc::AllocError;
 
 /// A key that came, and the digest of its value.
 pub(crate) type NodeRead<'a, K> = (Wanted<K>, &'a [u8]);
@@ -127,9 +128,10 @@ fn read_digests<'a, K: Key + Drop>(
     ensures keys { IfOk result (λ nodes. keys_among (nodes_read nodes.items) ≡ map (λ w. w.key) keys.items) }
     ensures read { IfOk result (λ nodes. Reads reader.old (flat_map (λ d. d.1) (nodes_read nodes.items)) reader.new) }
     ensures lengths { IfOk result (λ nodes. AllByRecursion (λ d. length d.1 ≡ digest_bytes) (nodes_read nodes.items)) }
-    ensures refused { IfErr result (IsRefusedFor (NoDigests digest_bytes (length keys.items) reader.old.left.now)) }
+    ensures refused { IfErr result (IsRefusedFor (BeginsWithNo concat
+        (λ ds. (length ds ≡ length keys.items) × AllByRecursion (λ d. length d ≡ digest_bytes) ds) reader.old.left.now)) }
 {
-    let mut nodes = Vec::new(reader.alloc());
+    let mut nodes = Vec::with_capacity(reader.alloc(), keys.len())?;
     'keys: for wanted in keys {
         let digest = reader.slice(digest_bytes)?;
         nodes.push((wanted, digest))?;
@@ -181,7 +183,7 @@ fn read_pages<K: Key + Drop>(
     ensures refused { IfErr result (IsRefusedFor (BeginsWithNo pages_bytes
         (λ pages. (length pages ≡ length keys.items + 1) × AllByRecursion IsPageDigest pages) reader.old.left.now)) }
 {
-    let mut below = Vec::new(reader.alloc());
+    let mut below = Vec::with_capacity(reader.alloc(), keys.len())?;
     'keys: for wanted in keys {
         let page = decode_page(reader)?;
         below.push((page, wanted))?;
@@ -219,14 +221,26 @@ pub(crate) fn read_part<K: Key + Decode, V: Join + Decode>(
     ensures refused { IfErr result (IsRefusedFor (NoPart K.cmp K.is_value V.is_value K.encoding V.encoding gap.now reader.old.left.now)) }
 {
     let mut run = KeyRun::behind(reader.alloc(), gap.after.as_ref())?;
-    let mut part = read_rows(reader, gap, &mut run)?;
+    let part = read_rows(reader, gap, &mut run)?;
     if reader.flag()? {
-        rows.append(&mut part)?;
+        add_rows(rows, part)?;
         return Ok(());
     }
     add_behind(&part, gap, left)?;
-    rows.append(&mut part)?;
+    add_rows(rows, part)?;
     Ok(())
+}
+
+/// Adds rows after others. Where there are no others, nothing is copied.
+fn add_rows<K: Drop, V: Drop>(rows: &mut Vec<(K, V)>, more: Vec<(K, V)>) -> Result<(), AllocError>
+    ensures { OnOk result (rows.new.items ≡ rows.old.items ++ more.items) }
+{
+    if rows.is_empty() {
+        *rows = more;
+        return Ok(());
+    }
+    let mut more = more;
+    rows.append(&mut more)
 }
 
 /// Adds what is left of a gap after the last of the rows.

@@ -1,8 +1,10 @@
 //! Gaps with keys of their own.
 ghost use Rattle.std.specs.Prelude.{◌≡◌, IfOk};
+ghost use Rattle.merkle_bytes.specs.RunTelling.{bound_some};
+ghost use Rattle.merkle_bytes.specs.Telling.{pair_some};
 ghost use Rattle.merkle_search_tree.specs.Items.{bound_of, lent_gap};
 ghost use Rattle.merkle_tree_theory.specs.Gap.{everywhere, SameBound, SameGap};
-ghost use Rattle.merkle_wire.specs.Gaps.{between, owned_gap, gap_behind, gap_key, HasKeyBounds, gap_some, gap_told};
+ghost use Rattle.merkle_wire.specs.Gaps.{between, owned_gap, gap_behind, gap_key, HasKeyBounds, gap_told};
 
 use merkle_bytes::{Decode, DecodeInRun, Encode, EncodeInRun, KeyRun, ReadError, Reader};
 use merkle_digest::Key;
@@ -81,7 +83,7 @@ impl<K: Encode> EncodeInRun for OwnedGap<K> {
 impl<K: Decode> DecodeInRun for OwnedGap<K> {
     ghost is_entry = { λ gap. HasKeyBounds K.is_value (owned_gap gap) };
 
-    ghost some = { λ last gap. gap_some K.encoding last (owned_gap gap) };
+    ghost some = { λ last gap. pair_some _ _ (bound_some K.encoding last gap.after) };
 
     ghost told = { λ last a b. gap_told K.encoding K.eq K.told last (owned_gap a) (owned_gap b) };
 

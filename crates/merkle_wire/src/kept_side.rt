@@ -10,7 +10,7 @@ ghost use Rattle.merkle_wire.specs.ItsRows.{digests_of};
 use crate::gaps::OwnedGap;
 use crate::kept_rows::KeptRows;
 use crate::outlines::{Telling, outline_over, tell_outline};
-use crate::settings::{Settings, agree};
+use crate::settings::{Settings, are_settings_of};
 use merkle_bytes::Encode;
 use merkle_digest::{Hasher, Key, PageDigest};
 use merkle_replica::{Join, Replica, RowHasher};
@@ -108,7 +108,7 @@ impl<
     ghost is_sound = { λ _. ⊤ };
 
     fn has_settings(&self, _beside: &R, settings: &Settings<K>) -> bool {
-        agree(self, settings)
+        are_settings_of(self, settings)
     }
 
     fn hash(&mut self, _beside: &R) -> Result<(), R::Error> {
@@ -164,7 +164,7 @@ impl<
     ghost is_sound = { λ _. ⊤ };
 
     fn has_settings(&self, _beside: &(), settings: &Settings<K>) -> bool {
-        agree(self.tree(), settings)
+        are_settings_of(self, settings)
     }
 
     fn hash(&mut self, _beside: &()) -> Result<(), AllocError> {

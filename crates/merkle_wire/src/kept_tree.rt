@@ -109,7 +109,7 @@ impl<const N: usize, K: Key + Drop, V: Join + Drop, H: RowHasher<N, K, V>> KeptT
     }
 
     fn is_page(&mut self, gap: &Gap<'_, K>, digest: &PageDigest) -> Result<bool, AllocError> {
-        let _ = self.root_hash_counted();
+        hash_tree(self);
         Ok(is_page_of(self, gap, digest))
     }
 }
@@ -151,7 +151,7 @@ impl<const N: usize, K: Key + Drop, V: Join + Drop, H: RowHasher<N, K, V>> KeptT
     }
 
     fn is_page(&mut self, gap: &Gap<'_, K>, digest: &PageDigest) -> Result<bool, AllocError> {
-        self.hash();
+        hash_replica(self);
         Ok(is_page_of(self.tree(), gap, digest))
     }
 }
@@ -166,6 +166,45 @@ pub(crate) fn first_key<K: Key + Drop, V: Join, H: RowHasher<N, K, V>, const N: 
         None => Ok(None),
         Some(node) => Ok(Some(node.key().clone()?)),
     }
+}
+
+/// The key of the first row of a replica, if it has one.
+pub(crate) fn first_row_key<K: Key + Drop, V: Join, H: RowHasher<N, K, V>, const N: usize>(
+    replica: &Replica<K, V, H, N>,
+) -> Result<Option<K>, AllocError>
+    ensures { IfOk result (IsOption (IsKeyOf K.cmp replica.now.rows)) }
+{
+    match replica.rows().first() {
+        None => Ok(None),
+        Some(row) => Ok(Some(row.0.clone()?)),
+    }
+}
+
+/// Gives a digest to each page of a tree that lacks one. It looks at the root page alone where none does.
+fn hash_tree<K: Key, V: Join, H: RowHasher<N, K, V>, const N: usize>(
+    tree: &mut MerkleSearchTree<K, V, H, N>,
+)
+    ensures hashed { IsSome tree.new.root_hash }
+    ensures kept { digests_of tree.new ≡ digests_of tree.old }
+{
+    if let Some(_) = tree.root_hash_cached() {
+        return;
+    }
+    let _ = tree.root_hash_counted();
+}
+
+/// Gives a digest to each page of a replica's tree that lacks one.
+fn hash_replica<K: Key, V: Join, H: RowHasher<N, K, V>, const N: usize>(
+    replica: &mut Replica<K, V, H, N>,
+)
+    ensures hashed { IsSome replica.new.tree.root_hash }
+    ensures kept { digests_of replica.new.tree ≡ digests_of replica.old.tree }
+    ensures rows { replica.new.rows ≡ replica.old.rows }
+{
+    if let Some(_) = replica.tree().root_hash_cached() {
+        return;
+    }
+    replica.hash();
 }
 
 /// Whether the page that fills the gap has this digest, where the tree is hashed.

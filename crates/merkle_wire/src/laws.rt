@@ -1,9 +1,15 @@
 //! Laws over the definitions: a session of messages is a catch-up, whatever carries the messages; a session with an honest peer ends; what it costs;
 //! and when digests in it are faithful. The functions have no effect and take no memory.
-ghost use Rattle.merkle_wire.specs.SessionLaws.{AnswersAreTaken, BroughtRowsCatchUp, LackedKeysAreTold, LackedPagesAreTold};
-ghost use Rattle.merkle_wire.specs.SessionLaws.{NoCollisionIsFaithful, OwnPagesAreKnown, SessionsBring, SessionsEnd};
+ghost use Rattle.std.specs.Prelude.{ℕ, ◌+◌, ◌*◌, ◌≤◌, ◌↔◌, Bool, List, length, IsTrue};
+ghost use Rattle.key_order.specs.Map.{IsMap};
+ghost use Rattle.merkle_replica.specs.Contents.{Side};
+ghost use Rattle.merkle_tree_theory.specs.Gap.{Gap};
+ghost use Rattle.merkle_wire.specs.SessionLaws.{AnswersAreTaken, BroughtRowsCatchUp, InSessions, LackedKeysAreTold, LackedPagesAreTold};
+ghost use Rattle.merkle_wire.specs.SessionLaws.{NoCollisionIsFaithful, SessionsBring};
+ghost use Rattle.merkle_wire.specs.Taking.{HasPageAt};
+ghost use Rattle.merkle_wire.specs.ToldAlike.{ItemsAreToldAlike, PartsAreToldAlike};
 
-use merkle_bytes::Decode;
+use merkle_bytes::{Decode, Encode};
 use merkle_digest::{Key, KeyBytesExact};
 use merkle_replica::laws::no_collision_is_enough;
 use merkle_replica::{Join, RowHasher};
@@ -38,7 +44,7 @@ pub fn an_honest_session_ends<
     const N: usize,
 >()
     ensures taken { AnswersAreTaken H.laws N K.encoding V.encoding K.is_value V.is_value }
-    ensures ends { SessionsEnd H.laws N K.encoding V.encoding }
+    ensures ends { InSessions H.laws N K.encoding V.encoding (λ local peer begun last more so_far. length more ≤ 3 * length peer.rows + 2) }
 {
     a_map_has_one_tree::<K, H, N>();
 }
@@ -56,7 +62,8 @@ pub fn a_session_costs_what_is_lacked<
 >()
     ensures pages { LackedPagesAreTold H.laws N K.encoding V.encoding }
     ensures keys { LackedKeysAreTold H.laws N K.encoding V.encoding }
-    ensures known { OwnPagesAreKnown H.laws }
+    ensures known { (s : Side K V H) → IsMap K.cmp s.rows → (is_there : Gap K → List ℕ → Bool)
+        × ((g : Gap K) (d : List ℕ) → IsTrue (is_there g d) ↔ HasPageAt H.laws s g d) }
 {
     a_map_has_one_tree::<K, H, N>();
     equal_pages_have_equal_maps::<K>();
@@ -74,3 +81,10 @@ pub fn no_collision_makes_a_session_faithful<
 {
     no_collision_is_enough::<K, V, H, N>();
 }
+
+/// What is told of keys and values rests on their bytes alone. So a side whose rows are read back, as values that are equal to those that it has and not
+/// the same ones, tells what it would tell by these.
+pub fn equal_bytes_are_told_alike<K: Ord + Decode, V: Encode>()
+    ensures items { ItemsAreToldAlike K.cmp K.encoding V.encoding }
+    ensures parts { PartsAreToldAlike K.cmp K.encoding V.encoding }
+{}

@@ -43,6 +43,6 @@ pub use session::{
     BothMessagesError, MessagesError, catch_up_both_by_messages, catch_up_by_messages,
 };
 pub use session_error::{SessionError, TakeError};
-pub use settings::Settings;
+pub use settings::{Settings, are_settings_of};
 pub use wanted::Wanted;
 pub use within::rows_ascend;

@@ -23,7 +23,7 @@ pub(crate) fn nodes_of<'a, K, const N: usize>(
 ) -> Result<Vec<NodeRef<'a, N, K>>, AllocError>
     ensures { IfOk result (λ nodes. node_pairs nodes.items ≡ nodes_among (items list.now)) }
 {
-    let mut nodes = Vec::new(alloc);
+    let mut nodes = Vec::with_capacity(alloc, list.len())?;
     'items: for item in list {
         if let OutlineItem::Node(key, digest) = item {
             nodes.push((*key, *digest))?;

@@ -1,11 +1,11 @@
 //! What the answering side tells of pages.
-ghost use Rattle.std.specs.Prelude.{◌≡◌, ◌∷◌, true, false, IfOk, OnOk, IsSome, IsTrue, None, ⊤};
+ghost use Rattle.std.specs.Prelude.{◌≡◌, true, false, IfOk, OnOk, IsSome, IsTrue, None, ⊤};
 ghost use Rattle.merkle_bytes.specs.Encodings.{AddsBytes};
 ghost use Rattle.merkle_search_tree.specs.Items.{items, bound_of};
 ghost use Rattle.merkle_wire.specs.Messages.{front};
 ghost use Rattle.merkle_wire.specs.Outlines.{HasNoPage, pages_beside, pages_bytes, nodes_digest, IsTold};
 ghost use Rattle.merkle_wire.specs.Replies.{IsFull, items_over, outline_over_bytes, TellsWhatFits};
-ghost use Rattle.merkle_wire.specs.Steps.{AddsTold, lent_page_bytes};
+ghost use Rattle.merkle_wire.specs.Steps.{AddsTold};
 ghost use Rattle.merkle_wire.specs.Tellings.{TellsOutlines};
 
 use crate::gaps::OwnedGap;
@@ -110,7 +110,11 @@ pub fn tell_outline<K: Key + Encode + Drop, V: Encode, R: KeptRows<K, V>, const 
     let nodes = nodes_of(alloc, list)?;
     if are_told(telling.with_pages, list) {
         let mut run = KeyRun::behind(alloc, after)?;
-        write_page(list, &nodes, &mut run, bytes)?;
+        // A byte 2, the digest of the nodes, their keys, and the digests of the pages before, between and after them.
+        bytes.extend_from_slice(&[2])?;
+        bytes.extend_from_slice(&nodes_digest(&nodes))?;
+        encode_keys(&nodes, &mut run, bytes)?;
+        encode_pages(list, bytes)?;
         Ok(())
     } else {
         write_nodes(alloc, rows, &nodes, telling.most, after, bytes)?;
@@ -139,22 +143,6 @@ fn has_page<K, const N: usize>(list: &[OutlineItem<'_, N, K>]) -> bool
         }
     }
     false
-}
-
-/// Writes a page: a byte 2, the digest of its nodes, its keys, and the digest of the page before each of them and of that after the last.
-fn write_page<K: Encode, const N: usize>(
-    list: &[OutlineItem<'_, N, K>],
-    nodes: &[NodeRef<'_, N, K>],
-    run: &mut KeyRun,
-    bytes: &mut Vec<u8>,
-) -> Result<(), AllocError>
-    ensures { OnOk result (AddsBytes bytes.old (2 ∷ lent_page_bytes K.encoding run.old nodes.now (items list.now)) bytes.new) }
-{
-    bytes.extend_from_slice(&[2])?;
-    bytes.extend_from_slice(&nodes_digest(nodes))?;
-    encode_keys(nodes, run, bytes)?;
-    encode_pages(list, bytes)?;
-    Ok(())
 }
 
 /// Writes the digest of the page before each node, and of that after the last.

@@ -95,7 +95,7 @@ fn read_outlines<'a, K: Key + Decode, V: Join + Decode>(
         gaps.items reply.now)) }
 {
     let mut reader = reader_of(alloc, reply, kind)?;
-    let mut told = Vec::new(alloc);
+    let mut told = Vec::with_capacity(alloc, gaps.len())?;
     let mut left = Vec::new(alloc);
     'gaps: for gap in gaps {
         if reader.left().is_empty() {
@@ -119,7 +119,7 @@ fn read_values<K: Key + Decode, V: Join + Decode>(
     ensures refused { IfErr result (IsRefusedFor (¬ Says rows_at_kind (value_at_bytes V.encoding) (λ w. IsOption V.is_value) keys.items reply.now)) }
 {
     let mut reader = reader_of(alloc, reply, Kind::RowsAt)?;
-    let mut rows = Vec::new(alloc);
+    let mut rows = Vec::with_capacity(alloc, keys.len())?;
     let mut left = Vec::new(alloc);
     'keys: for wanted in keys {
         if reader.left().is_empty() {

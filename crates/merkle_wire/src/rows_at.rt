@@ -42,7 +42,7 @@ pub(crate) fn tell_values<
         if is_full(&bytes, most_bytes) {
             return Ok(bytes);
         }
-        tell_value(alloc, side, beside, &wanted.key, &mut bytes)?;
+        tell_value(side, beside, &wanted.key, &mut bytes)?;
     }
     Ok(bytes)
 }
@@ -55,27 +55,17 @@ fn tell_value<
     S: KeptSide<N, K, V, H, R>,
     R,
     const N: usize,
->(alloc: Global, side: &mut S, beside: &R, key: &K, bytes: &mut Vec<u8>) -> Result<(), S::Error>
+>(side: &mut S, beside: &R, key: &K, bytes: &mut Vec<u8>) -> Result<(), S::Error>
     ensures told { S.is_sound side.new → OnOk result (AddsBytes bytes.old
         (option_bytes V.encoding (get K.cmp (S.contents side.old beside.now).rows key.now)) bytes.new) }
     ensures kept { S.is_sound side.new → S.contents side.new beside.now ≡ S.contents side.old beside.now }
     ensures steady { S.is_sound side.new → S.is_sound side.old }
 {
-    let mut value = Vec::new(alloc);
-    if side.add_value(beside, key, &mut value)? {
-        write_some(&value, bytes)?;
-        Ok(())
-    } else {
-        bytes.extend_from_slice(&[0])?;
-        Ok(())
-    }
-}
-
-/// Writes a byte 1 and a value.
-fn write_some(value: &[u8], bytes: &mut Vec<u8>) -> Result<(), AllocError>
-    ensures { OnOk result (bytes.new.items ≡ bytes.old.items ++ 1 ∷ value.now) }
-{
     bytes.extend_from_slice(&[1])?;
-    bytes.extend_from_slice(value)?;
+    if side.add_value(beside, key, bytes)? {
+        return Ok(());
+    }
+    bytes.pop();
+    bytes.extend_from_slice(&[0])?;
     Ok(())
 }

@@ -72,7 +72,7 @@ impl<T: Drop> From<AllocFailed<T>> for SessionError {
 }
 
 impl From<ReadError> for SessionError {
-    ghost use Rattle.merkle_wire.specs.Faults.{unread};
+    ghost use Rattle.merkle_bytes.specs.Refusals.{unread};
     ghost use Rattle.merkle_wire.specs.declared.session_error.SessionError.TheVariants.{Malformed, Memory};
 
     ghost from_gives = { λ error fault. fault ≡ unread Memory Malformed error };

@@ -1,20 +1,18 @@
 //! What the digests of two sides rest on, which the first message tells: sides whose settings differ have no digest in common.
-ghost use Rattle.std.specs.Prelude.{◌≡◌, ◌≢◌, OnOk, IfOk, IfErr, MatchOption, IsTrue, ◌↔◌};
+ghost use Rattle.std.specs.Option.{option_map};
+ghost use Rattle.std.specs.Prelude.{◌≡◌, ◌≢◌, ◌<◌, ◌^◌, OnOk, IfOk, IfErr, MatchOption, IsTrue, ◌↔◌};
 ghost use Rattle.merkle_bytes.specs.Encodings.{AddsBytes};
 ghost use Rattle.merkle_bytes.specs.Reading.{Reads, BeginsWithNo};
 ghost use Rattle.merkle_bytes.specs.Refusals.{IsMalformed, IsRefusal};
 ghost use Rattle.merkle_bytes.specs.Options.{IsOption};
-ghost use Rattle.merkle_tree_theory.specs.State.{map_of};
 ghost use Rattle.merkle_tree_theory.specs.declared.page_format.PageFormat.{PageFormat as PageFormatOf};
 ghost use Rattle.merkle_wire.specs.Settings.{format_byte, settings_bytes, AreSettings, AreSettingsBy, IsDigested};
 ghost use Rattle.merkle_wire.specs.Sessions.{IsKeyOf};
-ghost use Rattle.merkle_wire.specs.ItsRows.{digests_of};
 
-use crate::kept_tree::{KeptTree, first_key};
+use crate::kept_tree::KeptTree;
 use merkle_bytes::{Decode, Encode, Expected, ReadError, Reader, encode_count};
 use merkle_digest::{Hasher, Key};
 use merkle_replica::{Join, RowHasher};
-use merkle_search_tree::MerkleSearchTree;
 use merkle_search_tree::builder::PageFormat;
 use std::alloc::{AllocError, Global};
 
@@ -89,40 +87,46 @@ pub(crate) fn decode_settings<K: Decode>(reader: &mut Reader<'_>) -> Result<Sett
     })
 }
 
-/// The settings of a tree in memory.
-pub(crate) fn settings_of<K: Key + Drop, V: Join, H: RowHasher<N, K, V>, const N: usize>(
-    alloc: Global,
-    tree: &MerkleSearchTree<K, V, H, N>,
-) -> Result<Settings<K>, AllocError>
-    ensures settings { IfOk result (AreSettingsBy ⟦<H as Hasher<N, K>>⟧.digest_of N (digests_of tree.now)) }
-    ensures keys { IfOk result (AreSettings (IsKeyOf K.cmp (map_of tree.now))) }
+/// The settings of a tree that is kept anywhere, with the digest of this key, where there is one.
+pub(crate) fn settings_with<
+    K: Key,
+    V: Join,
+    H: RowHasher<N, K, V>,
+    T: KeptTree<N, K, V, H>,
+    const N: usize,
+>(alloc: Global, tree: &T, key: Option<K>) -> Result<Settings<K>, AllocError>
+    ensures settings { IfOk result (AreSettingsBy ⟦<H as Hasher<N, K>>⟧.digest_of N (T.kept tree.now).digests) }
+    ensures sample { IfOk result (λ settings. option_map (λ p. p.0) settings.sample ≡ key) }
+    ensures few { IfOk result (λ settings. settings.digest_bytes < 2 ^ 64) }
 {
+    let sample = match key {
+        None => None,
+        Some(key) => Some(digested(alloc, tree, key)?),
+    };
     Ok(Settings {
         level_base: tree.level_base().get(),
         page_format: tree.page_format(),
         digest_bytes: N as u64,
-        sample: sample_of(alloc, tree)?,
+        sample,
     })
 }
 
-/// The first key of a tree with its digest, where it has a key.
-fn sample_of<K: Key + Drop, V: Join, H: RowHasher<N, K, V>, const N: usize>(
+/// A key with its digest by the tree's hasher.
+fn digested<K: Key, V: Join, H: RowHasher<N, K, V>, T: KeptTree<N, K, V, H>, const N: usize>(
     alloc: Global,
-    tree: &MerkleSearchTree<K, V, H, N>,
-) -> Result<Option<(K, Vec<u8>)>, AllocError>
-    ensures digested { IfOk result (IsDigested (⟦<H as Hasher<N, K>>⟧.digest_of tree.now.hasher)) }
-    ensures own { IfOk result (IsOption (λ sample. IsKeyOf K.cmp (map_of tree.now) sample.0)) }
+    tree: &T,
+    key: K,
+) -> Result<(K, Vec<u8>), AllocError>
+    ensures key { IfOk result (λ pair. pair.0 ≡ key) }
+    ensures digest { IfOk result (λ pair. pair.1.items ≡ ⟦<H as Hasher<N, K>>⟧.digest_of (T.kept tree.now).digests.hasher key) }
 {
-    let Some(key) = first_key(tree)? else {
-        return Ok(None);
-    };
-    let digest = tree.key_digest(&key);
+    let digest = tree.digest_of_key(&key);
     let bytes = Vec::from_slice(alloc, digest.as_bytes().as_slice())?;
-    Ok(Some((key, bytes)))
+    Ok((key, bytes))
 }
 
-/// The settings of a tree that is kept anywhere.
-pub(crate) fn settings_by<
+/// The settings of a tree that is kept anywhere, with the digest of a key of its own, where it has one.
+pub(crate) fn settings_of<
     K: Key + Drop,
     V: Join,
     H: RowHasher<N, K, V>,
@@ -134,42 +138,20 @@ pub(crate) fn settings_by<
     ensures kept { T.is_sound tree.new → T.kept tree.new ≡ T.kept tree.old }
     ensures steady { T.is_sound tree.new → T.is_sound tree.old }
 {
-    let sample = sample_by(alloc, tree)?;
-    Ok(Settings {
-        level_base: tree.level_base().get(),
-        page_format: tree.page_format(),
-        digest_bytes: N as u64,
-        sample,
-    })
+    let key = tree.some_key()?;
+    let settings = settings_with(alloc, tree, key)?;
+    Ok(settings)
 }
 
-/// A key of a tree with its digest, where it has a key.
-fn sample_by<
-    K: Key + Drop,
+/// Whether these are the settings of a tree that is kept anywhere.
+pub fn are_settings_of<
+    K: Key,
     V: Join,
     H: RowHasher<N, K, V>,
     T: KeptTree<N, K, V, H>,
     const N: usize,
->(alloc: Global, tree: &mut T) -> Result<Option<(K, Vec<u8>)>, T::Error>
-    ensures digested { T.is_sound tree.new → IfOk result (IsDigested (⟦<H as Hasher<N, K>>⟧.digest_of (T.kept tree.old).digests.hasher)) }
-    ensures own { T.is_sound tree.new → IfOk result (IsOption (λ sample. IsKeyOf K.cmp (T.kept tree.old).digests.map sample.0)) }
-    ensures kept { T.is_sound tree.new → T.kept tree.new ≡ T.kept tree.old }
-    ensures steady { T.is_sound tree.new → T.is_sound tree.old }
-{
-    let Some(key) = tree.some_key()? else {
-        return Ok(None);
-    };
-    let digest = tree.digest_of_key(&key);
-    let bytes = Vec::from_slice(alloc, digest.as_bytes().as_slice())?;
-    Ok(Some((key, bytes)))
-}
-
-/// Whether these are the settings of the tree.
-pub(crate) fn agree<K: Key, V, H: Hasher<N, K>, const N: usize>(
-    tree: &MerkleSearchTree<K, V, H, N>,
-    settings: &Settings<K>,
-) -> bool
-    ensures { IsTrue result ↔ AreSettingsBy H.digest_of N (digests_of tree.now) settings.now }
+>(tree: &T, settings: &Settings<K>) -> bool
+    ensures { IsTrue result ↔ AreSettingsBy ⟦<H as Hasher<N, K>>⟧.digest_of N (T.kept tree.now).digests settings.now }
 {
     if settings.level_base != tree.level_base().get() {
         return false;
@@ -184,16 +166,16 @@ pub(crate) fn agree<K: Key, V, H: Hasher<N, K>, const N: usize>(
 }
 
 /// Whether the digest of a sample is that of its key by the tree's hasher.
-fn has_digest<K: Key, V, H: Hasher<N, K>, const N: usize>(
-    tree: &MerkleSearchTree<K, V, H, N>,
+fn has_digest<K: Key, V: Join, H: RowHasher<N, K, V>, T: KeptTree<N, K, V, H>, const N: usize>(
+    tree: &T,
     sample: &Option<(K, Vec<u8>)>,
 ) -> bool
-    ensures { IsTrue result ↔ IsDigested (H.digest_of tree.now.hasher) sample.now }
+    ensures { IsTrue result ↔ IsDigested (⟦<H as Hasher<N, K>>⟧.digest_of (T.kept tree.now).digests.hasher) sample.now }
 {
     match sample {
         None => true,
         Some(pair) => {
-            let digest = tree.key_digest(&pair.0);
+            let digest = tree.digest_of_key(&pair.0);
             digest.as_bytes().as_slice() == pair.1.as_slice()
         }
     }

@@ -1,6 +1,5 @@
 //! Whether what came is there already, by a tree of digests.
 ghost use Rattle.std.specs.Prelude.{◌≡◌, false, IfOk, IsTrue};
-ghost use Rattle.merkle_wire.specs.ByDigests.{SaysIfThere};
 ghost use Rattle.merkle_wire.specs.ItsRows.{ForRowsOf};
 ghost use Rattle.merkle_wire.specs.Steps.{below_keys};
 ghost use Rattle.merkle_wire.specs.Taking.{HasNodes, has_digest, is_digest};
@@ -35,22 +34,6 @@ pub(crate) fn has_digest<
 {
     let own = tree.digest_at(key)?;
     Ok(is_digest(&own, digest))
-}
-
-/// Whether the key is there with the digest of this value.
-pub(crate) fn has_value<
-    K: Key + Drop,
-    V: Join + Drop,
-    H: RowHasher<N, K, V>,
-    T: KeptTree<N, K, V, H>,
-    const N: usize,
->(tree: &mut T, key: &K, value: &V) -> Result<bool, T::Error>
-    ensures has { T.is_sound tree.new → IfOk result (SaysIfThere H.laws (T.kept tree.old).digests key.now value.now) }
-    ensures kept { T.is_sound tree.new → T.kept tree.new ≡ T.kept tree.old }
-    ensures steady { T.is_sound tree.new → T.is_sound tree.old }
-{
-    let digest = tree.digest_of(value);
-    has_digest(tree, key, digest.as_bytes().as_slice())
 }
 
 /// Whether the keys of all nodes are there, and the digest of the digests of their values is this one.

@@ -10,7 +10,7 @@ use crate::coming::{NodeRead, OutlineRead, PageRead};
 use crate::gaps::OwnedGap;
 use crate::kept_tree::KeptTree;
 use crate::replies::{OutlineOver, Reply};
-use crate::sifting::{has_digest, has_nodes, has_value};
+use crate::sifting::{has_digest, has_nodes};
 use crate::wanted::Wanted;
 use crate::work::Work;
 use merkle_digest::{Key, PageDigest};
@@ -155,7 +155,8 @@ fn take_all<
     ensures steady { T.is_sound tree.new → T.is_sound tree.old }
 {
     'rows: for row in rows {
-        let is_there = has_value(tree, &row.0, &row.1)?;
+        let digest = tree.digest_of(&row.1);
+        let is_there = has_digest(tree, &row.0, digest.as_bytes().as_slice())?;
         work.take_row(row, is_there)?;
     }
     Ok(())

@@ -10,20 +10,65 @@ use std::alloc::Global;
 /// each of 256 levels, and two for rows; and each once more for each 64 MiB of what it is answered, or where it was told by a delta in vain.
 const MOST_MESSAGES: usize = 2_048;
 
-/// A session that waits for a reply, with what it knows of deltas if it goes by them.
-#[derive(Drop)]
-struct Session {
-    session: CatchingUp<String, u64>,
-    deltas: Option<Deltas>,
-}
-
 /// What comes after a reply: the next message, or this many rows.
-enum Step {
-    Ask(Session, Vec<u8>),
+enum Step<S> {
+    Ask(S, Vec<u8>),
     Came(usize),
 }
 
-impl Session {
+/// A session that waits for a reply.
+trait Session: Sized + Drop {
+    /// The session of a side that begins, and its first message.
+    fn begun(alloc: Global, local: &Numbers) -> Result<(Self, Vec<u8>), Fault>;
+
+    /// The peer's reply to a message.
+    fn reply_to(alloc: Global, peer: &mut Numbers, message: &[u8]) -> Result<Vec<u8>, Fault>;
+
+    /// What comes after a reply.
+    fn next(self, alloc: Global, local: &mut Numbers, reply: Vec<u8>) -> Result<Step<Self>, Fault>;
+
+    /// How many rounds of outlines were asked for.
+    fn outlined(&self) -> u32;
+}
+
+impl Session for CatchingUp<String, u64> {
+    fn begun(alloc: Global, local: &Numbers) -> Result<(Self, Vec<u8>), Fault> {
+        Ok(CatchingUp::begin(alloc, local)?)
+    }
+
+    fn reply_to(alloc: Global, peer: &mut Numbers, message: &[u8]) -> Result<Vec<u8>, Fault> {
+        match answer(alloc, peer, message) {
+            Ok(reply) => Ok(reply),
+            Err(_) => Err(Fault::Memory),
+        }
+    }
+
+    fn next(
+        self,
+        _alloc: Global,
+        local: &mut Numbers,
+        reply: Vec<u8>,
+    ) -> Result<Step<Self>, Fault> {
+        match self.take(local, &reply) {
+            Ok(Next::Ask(session, question)) => Ok(Step::Ask(session, question)),
+            Ok(Next::Came(rows)) => Ok(Step::Came(rows.len())),
+            Err(_) => Err(Fault::Memory),
+        }
+    }
+
+    fn outlined(&self) -> u32 {
+        self.rounds()
+    }
+}
+
+/// A session by deltas that waits for a reply.
+#[derive(Drop)]
+struct ByDeltas {
+    session: CatchingUp<String, u64>,
+    deltas: Deltas,
+}
+
+impl ByDeltas {
     /// The message for the next question.
     fn message_for(
         &mut self,
@@ -31,66 +76,53 @@ impl Session {
         local: &mut Numbers,
         question: Vec<u8>,
     ) -> Result<Vec<u8>, Fault> {
-        let Some(deltas) = &mut self.deltas else {
-            return Ok(question);
-        };
         let mut own = None;
-        if deltas.are_known() {
-            own = self.session.own_reply(local, deltas.pay())?;
+        if self.deltas.are_known() {
+            own = self.session.own_reply(local, self.deltas.pay())?;
         }
-        Ok(deltas.ask(alloc, own, question)?)
+        Ok(self.deltas.ask(alloc, own, question)?)
+    }
+}
+
+impl Session for ByDeltas {
+    fn begun(alloc: Global, local: &Numbers) -> Result<(Self, Vec<u8>), Fault> {
+        let (session, message) = CatchingUp::begin(alloc, local)?;
+        let deltas = Deltas::new();
+        Ok((ByDeltas { session, deltas }, message))
     }
 
-    /// What comes after a reply.
-    fn next(self, alloc: Global, local: &mut Numbers, reply: Vec<u8>) -> Result<Step, Fault> {
-        let Session {
+    fn reply_to(alloc: Global, peer: &mut Numbers, message: &[u8]) -> Result<Vec<u8>, Fault> {
+        let Ok((checksums, question)) = read_message(alloc, message) else {
+            return Err(Fault::Memory);
+        };
+        let plain = CatchingUp::reply_to(alloc, peer, question)?;
+        Ok(tell(alloc, checksums, plain)?)
+    }
+
+    fn next(self, alloc: Global, local: &mut Numbers, reply: Vec<u8>) -> Result<Step<Self>, Fault> {
+        let ByDeltas {
             session,
             mut deltas,
         } = self;
-        let mut plain = reply;
-        if let Some(known) = &mut deltas {
-            match known.hear(alloc, plain)? {
-                Heard::Again(question) => {
-                    return Ok(Step::Ask(Session { session, deltas }, question));
-                }
-                Heard::Reply(heard) => plain = heard,
+        let plain = match deltas.hear(alloc, reply)? {
+            Heard::Again(question) => {
+                return Ok(Step::Ask(ByDeltas { session, deltas }, question));
             }
-        }
-        match session.take(local, &plain) {
-            Ok(Next::Ask(session, question)) => {
-                let mut next = Session { session, deltas };
+            Heard::Reply(plain) => plain,
+        };
+        match session.next(alloc, local, plain)? {
+            Step::Ask(session, question) => {
+                let mut next = ByDeltas { session, deltas };
                 let message = next.message_for(alloc, local, question)?;
                 Ok(Step::Ask(next, message))
             }
-            Ok(Next::Came(rows)) => Ok(Step::Came(rows.len())),
-            Err(_) => Err(Fault::Memory),
+            Step::Came(count) => Ok(Step::Came(count)),
         }
     }
-}
 
-/// The plain reply to a question.
-fn replied(alloc: Global, peer: &mut Numbers, question: &[u8]) -> Result<Vec<u8>, Fault> {
-    match answer(alloc, peer, question) {
-        Ok(reply) => Ok(reply),
-        Err(_) => Err(Fault::Memory),
+    fn outlined(&self) -> u32 {
+        self.session.rounds()
     }
-}
-
-/// The peer's reply to a message.
-fn reply_to(
-    alloc: Global,
-    peer: &mut Numbers,
-    message: &[u8],
-    by_deltas: bool,
-) -> Result<Vec<u8>, Fault> {
-    if !by_deltas {
-        return replied(alloc, peer, message);
-    }
-    let Ok((checksums, question)) = read_message(alloc, message) else {
-        return Err(Fault::Memory);
-    };
-    let plain = replied(alloc, peer, question)?;
-    Ok(tell(alloc, checksums, plain)?)
 }
 
 /// What a session takes over a wire.
@@ -117,15 +149,21 @@ pub fn cost_of(
     peer: &mut Numbers,
     by_deltas: bool,
 ) -> Result<Cost, Fault> {
-    let (session, mut message) = CatchingUp::begin(alloc, local)?;
-    let deltas = if by_deltas { Some(Deltas::new()) } else { None };
-    let mut session = Session { session, deltas };
+    if by_deltas {
+        return run::<ByDeltas>(alloc, local, peer);
+    }
+    run::<CatchingUp<String, u64>>(alloc, local, peer)
+}
+
+/// Runs a session of this kind, and returns what it takes.
+fn run<S: Session>(alloc: Global, local: &mut Numbers, peer: &mut Numbers) -> Result<Cost, Fault> {
+    let (mut session, mut message) = S::begun(alloc, local)?;
     let (mut sent, mut came) = (0usize, 0usize);
     for before in 0..MOST_MESSAGES {
-        let reply = reply_to(alloc, peer, &message, by_deltas)?;
+        let reply = S::reply_to(alloc, peer, &message)?;
         sent = sent.saturating_add(message.len());
         came = came.saturating_add(reply.len());
-        let rounds = session.session.rounds();
+        let rounds = session.outlined();
         match session.next(alloc, local, reply)? {
             Step::Ask(next, question) => {
                 session = next;

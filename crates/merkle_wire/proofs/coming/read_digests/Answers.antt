@@ -14,7 +14,7 @@ use Rattle.merkle_wire.proofs.coming.read_digests.Goals as goal
 
 pub keys-init : goal.keys-init
 keys-init g c =
-    let none = c.new-nodes.ensures.items in
+    let none = c.in_ok-nodes.ensures.items in
     let begun = c.args.reader.now.left.now in
     record {
       left = search rules;
@@ -52,7 +52,7 @@ returns-clause-keys g c =
 
 pub returns-in_err-digest-clause-refused : goal.returns-in_err-digest-clause-refused
 returns-in_err-digest-clause-refused g c =
-    let p = err_from_is_err_and c.from_residual.result c.from_residual.ensures.1 in
+    let p = err_from_is_err_and c.from_residual-in_err-digest.result c.from_residual-in_err-digest.ensures.1 in
     let kept = c.keys.invariant in
     let nodes = nodes_read c.keys.nodes.items in
     let short = ap length c.in-Some.ensures.steps.0 in

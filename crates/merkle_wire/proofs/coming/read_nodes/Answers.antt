@@ -1,7 +1,7 @@
 use Rattle.std.proofs.Common.{◌++◌, map, sym, ap, subst, ◌∙◌, append_assoc, ◌≡◌, length}
 use Rattle.std.proofs.lemmas.List.{length-map}
 use Rattle.std.proofs.lemmas.Result.{err_from_is_err_and}
-use Rattle.std.specs.List.{flat_map, AllByRecursion}
+use Rattle.std.specs.List.{flat_map, AllByRecursion, concat}
 use Rattle.merkle_wire.specs.Coming.{AscendIn}
 use Rattle.merkle_wire.specs.Gaps.{owned_gap}
 use Rattle.merkle_wire.specs.Outlines.{keys_among, keys_told}
@@ -50,5 +50,5 @@ returns-in_err-nodes-clause-refused g c =
     (key_tells g.K.Ord.cmp g.K.Encode.encoding g.K.PartialEq.eq g.met.K.Ord.matches_eq g.met.K.Decode.told) g.K.Decode.is_value c.args.digest_bytes c.args.run.now
     c.args.gap.now c.args.reader.now.left.now
     (map (λ w. w.key) c.in_ok-keys.keys.items) behind (c.in_ok-keys.ensures.read ∙ ap (λ t. t ++ behind) (told_as_keys g.K.Encode.encoding c.args.run.now c.in_ok-keys.keys.items))
-    (subst (λ n. BeginsWithNo (flat_map (λ d. d)) (λ digests. (length digests ≡ n) × AllByRecursion (λ d. length d ≡ c.args.digest_bytes) digests) behind)
+    (subst (λ n. BeginsWithNo concat (λ digests. (length digests ≡ n) × AllByRecursion (λ d. length d ≡ c.args.digest_bytes) digests) behind)
     (sym (length-map c.in_ok-keys.keys.items (λ w. w.key))) none)) c.in_err-nodes.ensures.refused)

@@ -15,7 +15,7 @@ use Rattle.merkle_wire.proofs.coming.read_pages.Goals as goal
 
 pub keys-init : goal.keys-init
 keys-init g c =
-    let none = c.new-below.ensures.items in
+    let none = c.in_ok-below.ensures.items in
     let begun = c.args.reader.now.left.now in
     record {
       left = search rules;
@@ -60,7 +60,7 @@ returns-clause-digests g c =
 
 pub returns-in_err-page-clause-refused : goal.returns-in_err-page-clause-refused
 returns-in_err-page-clause-refused g c =
-    let p = err_from_is_err_and c.from_residual.result c.from_residual.ensures.1 in
+    let p = err_from_is_err_and c.from_residual-in_err-page.result c.from_residual-in_err-page.ensures.1 in
     let kept = c.keys.invariant in
     let below = c.keys.below.items in
     rw (p.1, p.2) (refused_unread _ c.in_err-page.field-0.0 (λ malformed.

@@ -19,7 +19,7 @@ returns-then-branch-clause-read g c =
       c.in_ok-part.ensures.lie,
       inl (refl, refl),
       sym (append-nil c.args.left.now.items),
-      c.in_ok-append.ensures.items,
+      c.in_ok-add_rows.ensures,
     )
 
 pub returns-clause-read : goal.returns-clause-read
@@ -34,7 +34,7 @@ returns-clause-read g c =
       c.in_ok-part.ensures.lie,
       added.1,
       added.2,
-      c.in_ok-append-2.ensures.items,
+      c.in_ok-add_rows-2.ensures,
     )
 
 pub returns-in_err-part-clause-refused : goal.returns-in_err-part-clause-refused

@@ -38,7 +38,7 @@ some_told g t =
 
 pub gaps-init : goal.gaps-init
 gaps-init g c =
-    let none = c.new-told.ensures.items in
+    let none = c.in_ok-told.ensures.items in
     let bytes = flat_map (outline_over_bytes g.K.Encode.encoding g.V.Encode.encoding) in
     record {
       left = search rules;
@@ -49,8 +49,8 @@ gaps-init g c =
       each = subst (λ ts. AllByRecursion (λ t. LiesIn g.K.Ord.cmp c.args.digest_bytes (owned_gap t.0) t.1) (outlines_read ts)) (sym none) tt;
     }
 
-pub gaps-preserved-in-Continue-branch-2 : goal.gaps-preserved-in-Continue-branch-2
-gaps-preserved-in-Continue-branch-2 g c =
+pub gaps-preserved-in-Continue-branch-3 : goal.gaps-preserved-in-Continue-branch-3
+gaps-preserved-in-Continue-branch-3 g c =
     let gap = c.in-Some.gap in
     let kept = c.gaps.invariant in
     let given = one_yielded c.gaps.gap-iterator c.next.new.self c.gaps.yielded c.args.gaps.items gap c.in-Some.ensures.steps kept.left kept.count in

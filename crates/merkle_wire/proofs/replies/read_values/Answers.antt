@@ -38,11 +38,11 @@ keys-init g c = record {
   of = sym c.new-left.ensures.items;
   once = λ some. absurd (some c.new-left.ensures.items);
   read = c.in_ok-reader.ensures.read;
-  rows = c.new-rows.ensures.items;
+  rows = c.in_ok-rows.ensures.items;
 }
 
-pub keys-preserved-in-Continue-branch-2 : goal.keys-preserved-in-Continue-branch-2
-keys-preserved-in-Continue-branch-2 g c =
+pub keys-preserved-in-Continue-branch-3 : goal.keys-preserved-in-Continue-branch-3
+keys-preserved-in-Continue-branch-3 g c =
     let w = c.in-Some.wanted in
     let kept = c.keys.invariant in
     let given = one_yielded c.keys.wanted-iterator c.next.new.self c.keys.yielded c.args.keys.items w c.in-Some.ensures.steps kept.left kept.count in

@@ -11,4 +11,5 @@ returns-in_default-clause-added g c = rw c.in_default.is (λ _ rows of. ([], ref
 
 pub returns-clause-added : goal.returns-clause-added
 returns-clause-added g c = rw c.in-Some.is (λ sound rows of.
-    (owned_gap c.in_ok-own.own ∷ [], inr (rw g.met.H.RowHasher.laws_are c.in_ok-own.ensures, c.in_ok-is_page.ensures.lacked sound c.if-branch.false rows of), c.in_ok-add_below.ensures))
+    let own = owned_gap c.in_ok-own.own in
+    (own ∷ [], inr (rw g.met.H.RowHasher.laws_are (own, refl, c.in_ok-own.ensures), c.in_ok-is_page.ensures.lacked sound c.if-branch.false rows of), c.in_ok-add_below.ensures))

@@ -40,7 +40,8 @@ returns-clause-taken g c = λ sound.
     let laws = g.H.RowHasher.laws in
     let page = c.args.page.now in
     let before = c.has_nodes.ensures.steady sound in
+    let own = owned_gap c.in_ok-own.own in
     let lacked = subst (λ t. ForRowsOf laws t.digests (λ local. ¬ HasNodes laws local (below_keys page.below.items) page.digest)) (c.take_pages.ensures.kept before)
     (rw c.deref-2.ensures.value at (c.in_ok-has_nodes.ensures.lacked sound c.if-branch.false)) in
-    taken g (goal.at.returns-clause-taken g c).In_ok-take_pages before (owned_gap c.in_ok-own.own ∷ []) c.add_nodes.new.self
-    (λ rows of. inr (rw g.met.H.RowHasher.laws_are (rw (c.as_ref.ensures.value, c.as_ref-2.ensures.value) at c.in_ok-own.ensures), lacked rows of)) c.in_ok-add_nodes.ensures
+    taken g (goal.at.returns-clause-taken g c).In_ok-take_pages before (own ∷ []) c.add_nodes.new.self
+    (λ rows of. inr (rw g.met.H.RowHasher.laws_are (own, refl, rw (c.as_ref.ensures.value, c.as_ref-2.ensures.value) at c.in_ok-own.ensures), lacked rows of)) c.in_ok-add_nodes.ensures

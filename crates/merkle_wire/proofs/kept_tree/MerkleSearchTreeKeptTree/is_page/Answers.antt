@@ -3,15 +3,13 @@ use Rattle.merkle_replica.specs.Descent.{HasPage}
 use Rattle.merkle_search_tree.specs.Items.{lent_gap}
 use Rattle.merkle_wire.specs.ItsRows.{ForRowsOf}
 use Rattle.merkle_wire.specs.Taking.{HasPageAt}
-use Rattle.merkle_wire.proofs.HashedDigests.{hashed_digests}
 use Rattle.merkle_wire.proofs.kept_tree.MerkleSearchTreeKeptTree.is_page.Goals as goal
 
 pub returns-clause-there : goal.returns-clause-there
 returns-clause-there g c = λ _ yes.
-    let same = hashed_digests g.K.KeyBytes.bytes_of c.args.self.now c.root_hash_counted.new.self c.root_hash_counted.ensures.tree in
-    subst (λ own. ForRowsOf g.H.RowHasher.laws own (λ local. HasPage g.H.RowHasher.laws local c.args.digest.now)) same (c.is_page_of.ensures.there yes)
+    subst (λ own. ForRowsOf g.H.RowHasher.laws own (λ local. HasPage g.H.RowHasher.laws local c.args.digest.now)) c.hash_tree.ensures.kept (c.is_page_of.ensures.there yes)
 
 pub returns-clause-lacked : goal.returns-clause-lacked
 returns-clause-lacked g c = λ _ no.
-    let same = hashed_digests g.K.KeyBytes.bytes_of c.args.self.now c.root_hash_counted.new.self c.root_hash_counted.ensures.tree in
-    subst (λ own. ForRowsOf g.H.RowHasher.laws own (λ local. ¬ HasPageAt g.H.RowHasher.laws local (lent_gap c.args.gap.now) c.args.digest.now)) same (c.is_page_of.ensures.lacked no)
+    subst (λ own. ForRowsOf g.H.RowHasher.laws own (λ local. ¬ HasPageAt g.H.RowHasher.laws local (lent_gap c.args.gap.now) c.args.digest.now)) c.hash_tree.ensures.kept
+    (c.is_page_of.ensures.lacked no)
