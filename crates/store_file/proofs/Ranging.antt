@@ -63,7 +63,7 @@ same_bytes e k tied = (bytes_eq-Decides (string_bytes e.0) (string_bytes k)).0 (
 filter_one : {X : Type 0} (p : X → Bool) (x : X) (b : Bool) → p x ≡ b → filter p (x ∷ []) ≡ cond b (x ∷ []) []
 filter_one p x b h = rw h refl
 
-keeps_more : (seen rows new : List Entry) (e : Entry) → KeepsLast seen rows → IsMap text_order rows → HasSet rows e new → KeepsLast (seen ++ e ∷ []) new
+pub keeps_more : (seen rows new : List Entry) (e : Entry) → KeepsLast seen rows → IsMap text_order rows → HasSet rows e new → KeepsLast (seen ++ e ∷ []) new
 keeps_more seen rows new e was up now k = ap (last_or None) all ∙ by (is_eq (text_order e.0 k)) refl
   where
     all : rows_read k (seen ++ e ∷ []) ≡ rows_read k seen ++ filter (is_of k) (entry_row e ∷ [])

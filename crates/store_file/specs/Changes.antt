@@ -1,5 +1,5 @@
 -- What a call makes of a store's trees.
-use Rattle.std.specs.Prelude.{◌≡◌, [], ◌∷◌, List, ℕ, ℤ, map}
+use Rattle.std.specs.Prelude.{◌≡◌, ◌≢◌, [], ◌∷◌, List, ℕ, ℤ, map}
 use Rattle.key_order.specs.Text.{Text as Key}
 use Rattle.sqlite_value.specs.Order.{Row}
 use Rattle.sqlite_trees.specs.Tree.{Trees, put_row}
@@ -18,9 +18,9 @@ pub record IsNewStore (format : ℤ) (writer hash_key : List ℕ) (trees : Trees
   pub entries : trees 0 ≡ []
   pub about : IsNoted trees format writer hash_key
 
--- the notes are as they were
-abbrev pub KeepsNotes : Trees → Trees → Type 0
-KeepsNotes old new = new 1 ≡ old 1
+-- all tables but that of entries are as they were
+abbrev pub KeepsOtherTables : Trees → Trees → Type 0
+KeepsOtherTables old new = (tree : ℕ) → tree ≢ 0 → new tree ≡ old tree
 
 -- such a note is put among the notes, and no entry has changed
 pub record HasNoteMore (format : ℤ) (writer hash_key : List ℕ) (old new : Trees) : Type 0 where

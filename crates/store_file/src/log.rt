@@ -2,7 +2,7 @@
 ghost use Rattle.std.specs.Prelude.{◌≡◌, IfErr, IsErrOf, OnOk, OnErr};
 ghost use Rattle.sqlite_trees.specs.View.{IsRolledBack};
 ghost use Rattle.store_file.specs.Faults.{IsUnwritten};
-ghost use Rattle.store_file.specs.Logs.{HasTables, IsClean, IsLog, IsSteady, Writes};
+ghost use Rattle.store_file.specs.Logs.{HasTables, IsClean, IsLog, IsOpen, IsSteady, Writes};
 ghost use Rattle.store_file.specs.Transactions.{CommitsNothing, StaysQuiet, WereWritten};
 
 use crate::fault::StoreFault;
@@ -64,17 +64,25 @@ pub(crate) fn settled<S: Store, A>(
     done
 }
 
-/// Commits what a call has written, or takes it back where the call failed. What can't be committed is taken back too.
-pub(crate) fn commit<S: Store>(
-    trees: &mut S,
-    written: Result<(), StoreFault>,
-) -> Result<(), StoreFault>
+/// Ends a transaction over the trees of a log: commits what a call has written, or takes it back where the call failed. What can't be committed is taken
+/// back too. It takes the time of the commit, and returns the error of the call.
+///
+/// ```rust crates/store_file/src/table.rt
+/// let written = insert_all(alloc, &mut log.trees, entries);
+/// commit(&mut log.trees, written)
+/// ```
+///
+/// # Errors
+///
+/// That of the call, and [`StoreFault::Database`] and [`StoreFault::Memory`] of the commit: nothing of the transaction stays then.
+pub fn commit<S: Store>(trees: &mut S, written: Result<(), StoreFault>) -> Result<(), StoreFault>
     requires tables { IsClean S.Store trees.old → HasTables (S.Store.view trees.old) }
     ensures log { IsLog S.Store trees.new }
     // Of whatever log the trees were before the call.
     ensures written { (log : S) → IsLog S.Store log → CommitsNothing S.Store log trees.old
         → Writes S.Store log trees.new result (λ _ new. WereWritten S.Store trees.old written new) }
     ensures steady { IsSteady S.Store trees.old trees.new }
+    ensures was_open { IsClean S.Store trees.new → IsOpen S.Store trees.new → IsOpen S.Store trees.old }
     ensures late { IsErrOf result StoreFault.Time → IsErrOf written StoreFault.Time }
     ensures foreign { IsErrOf result StoreFault.Foreign → IsErrOf written StoreFault.Foreign }
     ensures faults { IfErr written IsUnwritten → IfErr result IsUnwritten }

@@ -1,17 +1,18 @@
 //! The entries of a log, and what is added to them.
-ghost use Rattle.std.specs.Prelude.{◌≡◌, ◌≤◌, ◌^◌, IfErr, IsErrOf, IsTrue};
-ghost use Rattle.store_file.specs.Changes.{HasOneMore, HasEntriesMore, HasEntriesInstead};
+ghost use Rattle.std.specs.Prelude.{◌≡◌, ◌≤◌, ◌^◌, [], IfErr, IsErrOf, IsTrue};
+ghost use Rattle.store_file.specs.Changes.{KeepsOtherTables, HasInstead, HasOneMore, HasEntriesMore, HasEntriesInstead};
 ghost use Rattle.store_file.specs.Entries.{HoldsEntries};
 ghost use Rattle.store_file.specs.Faults.{IsFailure, IsUnwritten};
-ghost use Rattle.store_file.specs.Logs.{HasEntryTable, Finds, OnlyReads, Writes};
+ghost use Rattle.store_file.specs.Logs.{HasEntryTable, HasTables, IsClean, Finds, Makes, OnlyReads, Writes};
 ghost use Rattle.store_file.specs.Registers.{HaveLateTime};
+ghost use Rattle.store_file.specs.Transactions.{CommitsNothing};
 
 use crate::catalog::ENTRIES;
 pub use crate::entry::Entries;
 use crate::fault::StoreFault;
 use crate::log::{Log, commit, settled};
 use crate::register::Register;
-use crate::walk::{all_entries, insert, insert_all, replace};
+use crate::walk::{all_entries, clear, insert, insert_all, replace};
 use sqlite_trees::store::{Shape, Store};
 use sqlite_value::keys::Order;
 use sqlite_value::row::Row;
@@ -36,6 +37,42 @@ pub fn read_log<S: Store>(alloc: Global, log: &mut Log<S>) -> Result<Entries, St
 {
     let read = all_entries(alloc, &mut log.trees);
     settled(&mut log.trees, read)
+}
+
+/// Adds an entry within a transaction, unless it is there. It takes the time of an insertion.
+///
+/// # Errors
+///
+/// [`StoreFault::Time`] where the database can't hold its time, [`StoreFault::Database`] and [`StoreFault::Memory`]. Nothing is rolled back.
+pub fn add_at<S: Store>(
+    alloc: Global,
+    trees: &mut S,
+    key: &str,
+    register: &Register,
+) -> Result<(), StoreFault>
+    requires tables { IsClean S.Store trees.old → HasTables (S.Store.view trees.old) }
+    ensures added { Makes S.Store trees.old trees.new result (HasOneMore key.now register.now) }
+    ensures others { Makes S.Store trees.old trees.new result KeepsOtherTables }
+    ensures late { IsErrOf result StoreFault.Time → 2 ^ 63 ≤ register.now.time }
+    ensures faults { IfErr result IsUnwritten }
+    ensures uncommitted { CommitsNothing S.Store trees.old trees.new }
+{
+    insert(trees, &mut Row::new(alloc), key, register)
+}
+
+/// Takes out all entries within a transaction. It takes a look and a removal for each.
+///
+/// # Errors
+///
+/// [`StoreFault::Database`], [`StoreFault::Malformed`] where the table is damaged, and [`StoreFault::Memory`]. Nothing is rolled back.
+pub fn clear_at<S: Store>(alloc: Global, trees: &mut S) -> Result<(), StoreFault>
+    requires tables { IsClean S.Store trees.old → HasTables (S.Store.view trees.old) }
+    ensures cleared { Makes S.Store trees.old trees.new result (HasInstead []) }
+    ensures others { Makes S.Store trees.old trees.new result KeepsOtherTables }
+    ensures failed { IfErr result IsFailure }
+    ensures uncommitted { CommitsNothing S.Store trees.old trees.new }
+{
+    clear(alloc, trees)
 }
 
 /// Adds an entry, unless it is there.

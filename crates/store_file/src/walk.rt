@@ -3,7 +3,7 @@ ghost use Rattle.std.specs.Prelude.{◌≡◌, ◌≤◌, ◌^◌, [], ◌∷◌
 ghost use Rattle.std.specs.Ordering.{is_gt};
 ghost use Rattle.sqlite_trees.specs.View.{OnlyWrites};
 ghost use Rattle.sqlite_value.specs.Keys.{plain, entry_cmp};
-ghost use Rattle.store_file.specs.Changes.{KeepsNotes, HasInstead, HasOneMore, HasEntriesMore, HasEntriesInstead};
+ghost use Rattle.store_file.specs.Changes.{KeepsOtherTables, HasInstead, HasOneMore, HasEntriesMore, HasEntriesInstead};
 ghost use Rattle.store_file.specs.Entries.{entry_row};
 ghost use Rattle.store_file.specs.Faults.{IsFailure, IsUnwritten};
 ghost use Rattle.store_file.specs.Logs.{HasEntryTable, HasTables, IsClean, Finds, Makes, MakesAndFinds};
@@ -77,7 +77,7 @@ fn remove_first<S: Store>(trees: &mut S, none: &Row, row: &mut Row) -> Result<bo
     requires tables { IsClean S.Store trees.old → HasTables (S.Store.view trees.old) }
     requires none { none.now ≡ [] }
     ensures last { MakesAndFinds S.Store trees.old trees.new result (λ _ new more. more ≡ false → new 0 ≡ []) }
-    ensures others { Makes S.Store trees.old trees.new result KeepsNotes }
+    ensures others { Makes S.Store trees.old trees.new result KeepsOtherTables }
     ensures frame { MakesView S.Store trees.old trees.new result OnlyWrites }
     ensures sound { MakesView S.Store trees.old trees.new result WasSound }
     ensures uncommitted { CommitsNothing S.Store trees.old trees.new }
@@ -100,6 +100,7 @@ fn is_above(row: &Row, other: &Row) -> bool
 pub(crate) fn clear<S: Store>(alloc: Global, trees: &mut S) -> Result<(), StoreFault>
     requires tables { IsClean S.Store trees.old → HasTables (S.Store.view trees.old) }
     ensures cleared { Makes S.Store trees.old trees.new result (HasInstead []) }
+    ensures others { Makes S.Store trees.old trees.new result KeepsOtherTables }
     ensures failed { IfErr result IsFailure }
     ensures frame { MakesView S.Store trees.old trees.new result OnlyWrites }
     ensures sound { MakesView S.Store trees.old trees.new result WasSound }
@@ -129,6 +130,7 @@ pub(crate) fn insert<S: Store>(
 ) -> Result<(), StoreFault>
     requires tables { IsClean S.Store trees.old → HasTables (S.Store.view trees.old) }
     ensures added { Makes S.Store trees.old trees.new result (HasOneMore key.now register.now) }
+    ensures others { Makes S.Store trees.old trees.new result KeepsOtherTables }
     ensures late { IsErrOf result StoreFault.Time → 2 ^ 63 ≤ register.now.time }
     ensures faults { IfErr result IsUnwritten }
     ensures frame { MakesView S.Store trees.old trees.new result OnlyWrites }

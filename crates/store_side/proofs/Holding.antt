@@ -7,10 +7,12 @@ use Rattle.key_order.specs.Map.{IsMap, SameMap, SameValue, get, rows_at}
 use Rattle.key_order.specs.Order.{Below}
 use Rattle.key_order.specs.Text.{Text, text_order}
 use Rattle.key_order.proofs.Maps.{get_at, same_by_get}
+use Rattle.merkle_digest.specs.SipHash.{siphash128}
 use Rattle.merkle_tree_theory.specs.Gap.{is_in_gap, pairs_within}
 use Rattle.sqlite_trees.specs.Tree.{Trees}
 use Rattle.sqlite_trees.proofs.ListLemmas.{filter-map}
 use Rattle.store_file.specs.Latest.{IsLatestAt}
+use Rattle.store_file.specs.RegisterLaws.{same_bytes as same_bytes_fed}
 use Rattle.store_file.specs.Ranges.{is_between, AreLatestBetween}
 use Rattle.store_file.specs.declared.register.Register.{Register}
 use Rattle.store_file.proofs.Ranging.{between_same}
@@ -21,7 +23,7 @@ use Rattle.store_tree.specs.Texts.{bytes_map}
 use Rattle.store_tree.proofs.Parts.{map_rows}
 use Rattle.store_tree.proofs.Sets.{same_key}
 use Rattle.store_tree.proofs.Texts.{get_bytes}
-use Rattle.store_side.specs.Digests.{register_digest, digest_row, HoldsDigests}
+use Rattle.store_side.specs.Digests.{register_digest, digest_row, digest_rows, AreLatestRows, AreLatestDigests, HoldsDigests, AreOneRegister}
 
 -- the digest of a key's latest register
 pub digest_held : (hash_key : List ℕ) (trees : Trees) (key : Text) (bytes : List ℕ) (found : Option Register) (r : Register) (digest : List ℕ) → bytes ≡ string_bytes key
@@ -38,11 +40,11 @@ module _ (hash_key : List ℕ) where
   all_digests k [] up = tt
   all_digests k (row ∷ rows) up = (up.0, all_digests k rows up.1)
 
-  digests_ascend : (rows : List (Text × Register)) → IsMap text_order rows → IsMap text_order (map (digest_row hash_key) rows)
+  pub digests_ascend : (rows : List (Text × Register)) → IsMap text_order rows → IsMap text_order (map (digest_row hash_key) rows)
   digests_ascend [] up = tt
   digests_ascend (row ∷ rows) up = (all_digests row.0 rows up.0, digests_ascend rows up.1)
 
-  digest_got : (rows : List (Text × Register)) (k : Text) → get text_order (map (digest_row hash_key) rows) k ≡ option_map (register_digest hash_key) (get text_order rows k)
+  pub digest_got : (rows : List (Text × Register)) (k : Text) → get text_order (map (digest_row hash_key) rows) k ≡ option_map (register_digest hash_key) (get text_order rows k)
   digest_got [] k = refl
   digest_got (row ∷ rows) k = by (is_eq (text_order row.0 k)) (digest_got rows k)
     where
@@ -51,19 +53,33 @@ module _ (hash_key : List ℕ) where
       by true rest = refl
       by false rest = rest
 
-alike : {X : Type 0} (a b : Option X) → a ≡ b → SameValue (λ x y. x ≡ y) a b
+-- equal registers have one digest
+same_digest : (hash_key : List ℕ) (a b : Option Register) → AreOneRegister a b → option_map (register_digest hash_key) a ≡ option_map (register_digest hash_key) b
+same_digest hash_key None None same = refl
+same_digest hash_key None (Some s) same = absurd same
+same_digest hash_key (Some r) None same = absurd same
+same_digest hash_key (Some r) (Some s) same = ap (λ bytes. Some (siphash128 hash_key bytes)) (same_bytes_fed r s same)
+
+-- the digests of rows that have the latest registers are those of the latest registers
+pub latest_digests : (hash_key : List ℕ) (trees : Trees) (rows : List (Text × Register)) → AreLatestRows trees rows → AreLatestDigests hash_key trees (digest_rows hash_key rows)
+latest_digests hash_key trees rows are = record {
+  ascending = digests_ascend hash_key rows are.ascending;
+  digests = λ key found latest. digest_got hash_key rows key ∙ sym (same_digest hash_key found (get text_order rows key) (are.latest key found latest));
+}
+
+pub alike : {X : Type 0} (a b : Option X) → a ≡ b → SameValue (λ x y. x ≡ y) a b
 alike None None e = tt
 alike None (Some y) e = absurd (let k = e in cc)
 alike (Some x) None e = absurd (let k = e in cc)
 alike (Some x) (Some y) e = let k = e in cc
 
-same_bytes : (ps qs : List (Text × List ℕ)) → SameMap text_order (λ x y. x ≡ y) ps qs → bytes_map ps ≡ bytes_map qs
+pub same_bytes : (ps qs : List (Text × List ℕ)) → SameMap text_order (λ x y. x ≡ y) ps qs → bytes_map ps ≡ bytes_map qs
 same_bytes [] [] s = refl
 same_bytes [] (q ∷ qs) s = absurd s
 same_bytes (p ∷ ps) [] s = absurd s
 same_bytes (p ∷ ps) (q ∷ qs) s = λ i. (same_key (string_bytes p.0) (string_bytes q.0) (ap is_eq s.0) i, s.1 i) ∷ same_bytes ps qs s.2 i
 
-gap_test : (after before : Option Text) (k : Text) → is_in_gap bytes_order (string_bytes k) (text_gap after before) ≡ is_between after before k
+pub gap_test : (after before : Option Text) (k : Text) → is_in_gap bytes_order (string_bytes k) (text_gap after before) ≡ is_between after before k
 gap_test None None k = refl
 gap_test None (Some b) k = refl
 gap_test (Some a) None k = refl

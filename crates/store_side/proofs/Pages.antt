@@ -27,13 +27,13 @@ use Rattle.merkle_wire.specs.Taking.{HasPageAt}
 use Rattle.merkle_wire.proofs.PagesAt.{page_in_each}
 use Rattle.store_file.specs.declared.register.Register.{Register}
 use Rattle.store_tree.specs.Calls.{digest_over}
-use Rattle.store_tree.specs.Texts.{bytes_gap, bytes_map}
+use Rattle.store_tree.specs.Texts.{bytes_gap, bytes_map, TellsAlike}
 use Rattle.store_tree.proofs.Sets.{same_key}
 use Rattle.store_tree.proofs.Texts.{tells_alike}
-use Rattle.store_side.specs.FileTrees.{TextDigests, digests_under, file_laws, level_of_bytes, SaysFilePage}
+use Rattle.store_side.specs.FileTrees.{TextDigests, digests_under, file_laws, key_level, SaysKeysPage}
 
 -- texts that are equal have the same bytes
-one_text : (a b : Text) → Same text_order a b → string_bytes a ≡ string_bytes b
+pub one_text : (a b : Text) → Same text_order a b → string_bytes a ≡ string_bytes b
 one_text a b same = same_key (string_bytes a) (string_bytes b) (ap is_eq same)
 
 module _ (hash_key : List ℕ) where
@@ -44,7 +44,7 @@ module _ (hash_key : List ℕ) where
   low key = level_low (text_digest hash_key key) 16
 
   one_level : (a b : Text) → Same text_order a b → level a ≡ level b
-  one_level a b same = ap (level_of_bytes hash_key) (one_text a b same)
+  one_level a b same = ap (key_level hash_key) (one_text a b same)
 
   module _ (pairs : TextDigests) where
     abbrev tree : Tree Text (List ℕ)
@@ -53,10 +53,13 @@ module _ (hash_key : List ℕ) where
     own : IsCanonicalRoot level tree × SameMap text_order (λ d e. d ≡ e) (pairs_of tree) pairs
     own = tree_of-is level low text_order one_level string_cmp_total pairs
 
-    digest_told : (gap : Gap Text) → digest_over (bytes_gap gap) (tree_of (level_of_bytes hash_key) (bytes_map pairs))
+    -- the tree of the keys' bytes tells what the tree of the keys tells
+    pub told_by_bytes : TellsAlike (tree_of (key_level hash_key) (bytes_map pairs)) tree
+    told_by_bytes = (tells_alike (key_level hash_key) (text_digest hash_key) 16 pairs tree (λ key. refl) (is_tree_of level low text_order one_level tree pairs own.0 own.1)).0
+
+    digest_told : (gap : Gap Text) → digest_over (bytes_gap gap) (tree_of (key_level hash_key) (bytes_map pairs))
         ≡ option_map (λ page. page_digest V2 string_bytes page) (page_over text_order gap tree)
-    digest_told gap =
-        (tells_alike (level_of_bytes hash_key) (text_digest hash_key) 16 pairs tree (λ key. refl) (is_tree_of level low text_order one_level tree pairs own.0 own.1)).0.page gap
+    digest_told = told_by_bytes.page
 
     module _ (rows : List (Text × Register)) (kept : AreDigestsOf file_laws (digests_under hash_key pairs) rows) where
       abbrev local : Side Text Register (List ℕ)
@@ -73,7 +76,7 @@ module _ (hash_key : List ℕ) where
 
       module _ (up : IsMap text_order pairs) (gap : Gap Text) (digest : List ℕ) (has : HasPageAt file_laws local gap digest) where
         -- a page that fills the gap is the one over it
-        page_over_it : digest_over (bytes_gap gap) (tree_of (level_of_bytes hash_key) (bytes_map pairs)) ≡ Some digest
+        page_over_it : digest_over (bytes_gap gap) (tree_of (key_level hash_key) (bytes_map pairs)) ≡ Some digest
         page_over_it =
             let up_tree : IsMap text_order (pairs_of tree) = ascends text_order string_cmp_total (λ d e. d ≡ e) (pairs_of tree) pairs own.1 up in
             let same_own = same_map-own text_order string_cmp_total (tree_map file_laws local) in
@@ -85,13 +88,13 @@ module _ (hash_key : List ℕ) where
 
     module _ (gap : Gap Text) (digest : List ℕ) where
       -- a page that is found is one of the side's
-      pub said_there : (is : Bool) → SaysFilePage hash_key (bytes_gap gap) digest pairs is → IsTrue is
+      pub said_there : (is : Bool) → SaysKeysPage hash_key (bytes_gap gap) digest pairs is → IsTrue is
           → ForRowsOf file_laws (digests_under hash_key pairs) (λ local. HasPage file_laws local digest)
       said_there true said told rows kept = page_there rows kept gap digest (page_over text_order gap tree) refl (sym (digest_told gap) ∙ said.1)
       said_there false said told rows kept = absurd (let k = told in cc)
 
       -- where none is found, none that fills the gap has the digest
-      pub said_lacked : (is : Bool) → SaysFilePage hash_key (bytes_gap gap) digest pairs is → is ≡ false
+      pub said_lacked : (is : Bool) → SaysKeysPage hash_key (bytes_gap gap) digest pairs is → is ≡ false
           → ForRowsOf file_laws (digests_under hash_key pairs) (λ local. ¬ HasPageAt file_laws local gap digest)
       said_lacked true said told rows kept = absurd (let k = told in cc)
       said_lacked false said told rows kept = λ has. said.1 (page_over_it rows kept said.0 gap digest has)

@@ -1,12 +1,13 @@
 -- The latest registers of a log, by their digests under a hash key.
-use Rattle.std.specs.Prelude.{◌≡◌, ℕ, List, Option, string_bytes}
+use Rattle.std.specs.Prelude.{◌≡◌, ℕ, List, Option, map, string_bytes, true}
 use Rattle.std.specs.Option.{option_map}
-use Rattle.key_order.specs.Map.{IsMap, get}
+use Rattle.key_order.specs.Map.{IsMap, SameValue, get}
 use Rattle.key_order.specs.Text.{Text, text_order}
 use Rattle.merkle_digest.specs.SipHash.{siphash128}
 use Rattle.sqlite_trees.specs.Tree.{Trees}
 use Rattle.store_file.specs.Latest.{IsLatestAt}
 use Rattle.store_file.specs.RegisterBytes.{register_bytes}
+use Rattle.store_file.specs.contracts.register.RegisterPartialEq.TheImpl as register_eq
 use Rattle.store_file.specs.declared.register.Register.{Register}
 use Rattle.store_tree.specs.Cells.{KeyDigests}
 use Rattle.store_tree.specs.Texts.{bytes_map}
@@ -18,6 +19,19 @@ register_digest hash_key r = siphash128 hash_key (register_bytes r)
 -- a row with the digest of its register
 abbrev pub digest_row : List ℕ → Text × Register → Text × List ℕ
 digest_row hash_key row = (row.0, register_digest hash_key row.1)
+
+-- rows, each with the digest of its register
+abbrev pub digest_rows : List ℕ → List (Text × Register) → List (Text × List ℕ)
+digest_rows hash_key = map (digest_row hash_key)
+
+-- equal registers, or none on both sides
+abbrev pub AreOneRegister : Option Register → Option Register → Type 0
+AreOneRegister = SameValue (λ x y. (register_eq.ghosts).eq x y ≡ true)
+
+-- these rows ascend, and have for each key a register equal to the latest in the table, or nothing where the table has no row of the key
+pub record AreLatestRows (trees : Trees) (rows : List (Text × Register)) : Type 0 where
+  pub ascending : IsMap text_order rows
+  pub latest : (key : Text) (found : Option Register) → IsLatestAt trees (string_bytes key) found → AreOneRegister found (get text_order rows key)
 
 module _ (hash_key : List ℕ) (trees : Trees) where
   -- these pairs ascend, and have for each key the digest of the latest register in the table, or nothing where the table has no row of the key

@@ -23,15 +23,19 @@ use Rattle.store_tree.specs.Cells.{HoldsCells}
 use Rattle.store_tree.specs.Tables.{HasTable}
 use Rattle.store_tree.specs.Texts.{bytes_map}
 use Rattle.store_tree.specs.declared.table.TheConstants.{CELLS}
-use Rattle.store_side.specs.Digests.{AreLatestDigests, register_digest}
+use Rattle.store_side.specs.Digests.{AreLatestRows, register_digest, digest_rows}
 
 -- keys, each with the digest of its value
 abbrev pub TextDigests : Type 0
 TextDigests = List (Text × List ℕ)
 
+-- keys, each with its latest register
+abbrev pub TextRows : Type 0
+TextRows = List (Text × Register)
+
 -- the level of a key by its bytes under a hash key
-abbrev pub level_of_bytes : List ℕ → List ℕ → ℕ
-level_of_bytes hash_key bytes = level_of (siphash128 hash_key bytes) 16
+abbrev pub key_level : List ℕ → List ℕ → ℕ
+key_level hash_key bytes = level_of (siphash128 hash_key bytes) 16
 
 -- the order of keys, their bytes and digests; the equality of registers, the later of two, and their digests
 abbrev pub file_laws : Laws Text Register (List ℕ)
@@ -44,19 +48,23 @@ file_laws = record {
   value_digest = register_digest;
 }
 
--- the keys ascend, and in the tree of their bytes this is whether the page over a gap has a digest
-abbrev pub SaysFilePage : List ℕ → Gap (List ℕ) → List ℕ → TextDigests → Bool → Type 0
-SaysFilePage hash_key gap digest pairs is = IsMap text_order pairs × SaysPage gap digest is (tree_of (level_of_bytes hash_key) (bytes_map pairs))
+-- in the tree of the bytes of these keys, which ascend, this is whether the page over a gap has a digest
+abbrev pub SaysKeysPage : List ℕ → Gap (List ℕ) → List ℕ → TextDigests → Bool → Type 0
+SaysKeysPage hash_key gap digest pairs is = IsMap text_order pairs × SaysPage gap digest is (tree_of (key_level hash_key) (bytes_map pairs))
 
-module _ (hash_key : List ℕ) (pairs : TextDigests) where
-  -- the digests of a side that has these keys, in trees of level base 16 and page format 2
-  abbrev pub digests_under : Digests Text (List ℕ)
-  digests_under = record { hasher = hash_key; base = 16; format = V2; map = pairs }
+-- so it is in the tree of the rows' digests
+abbrev pub SaysFilePage : List ℕ → Gap (List ℕ) → List ℕ → TextRows → Bool → Type 0
+SaysFilePage hash_key gap digest rows = SaysKeysPage hash_key gap digest (digest_rows hash_key rows)
 
-  -- the table of entries has these keys, each with the digest of its latest register, and the table of cells has the gaps of their tree
+-- the digests of a side that has these keys, in trees of level base 16 and page format 2
+abbrev pub digests_under : List ℕ → TextDigests → Digests Text (List ℕ)
+digests_under hash_key pairs = record { hasher = hash_key; base = 16; format = V2; map = pairs }
+
+module _ (hash_key : List ℕ) (rows : TextRows) where
+  -- the table of entries has these keys, each with its latest register, and the table of cells has the gaps of the tree of their digests
   pub record HasTreeOf (trees : Trees) : Type 0 where
-    pub digests : AreLatestDigests hash_key trees pairs
-    pub cells : HoldsCells (level_of_bytes hash_key) (bytes_map pairs) (trees CELLS)
+    pub latest : AreLatestRows trees rows
+    pub cells : HoldsCells (key_level hash_key) (bytes_map (digest_rows hash_key rows)) (trees CELLS)
 
   -- over a clean disk both tables are there, what is shown has the tree of these keys unless it is broken, and so has what is committed while it is open
   pub record IsFileOf {S : Type 0} (g : Ghosts S) (trees : S) : Type 0 where
@@ -67,24 +75,24 @@ module _ (hash_key : List ℕ) (pairs : TextDigests) where
     pub committed : IsClean g trees → IsOpen g trees → HasTreeOf (g.view trees).committed
 
 module _ (hash_key : List ℕ) where
-  -- where it says yes, a page of the tree of these keys has the digest, whatever rows these are the digests of
-  abbrev pub IsPageThere : List ℕ → TextDigests → Bool → Type 0
-  IsPageThere digest pairs is = IsTrue is → ForRowsOf file_laws (digests_under hash_key pairs) (λ local. HasPage file_laws local digest)
+  -- where it says yes, a page of the tree of the rows' digests has the digest, whatever rows these are the digests of
+  abbrev pub IsPageThere : List ℕ → TextRows → Bool → Type 0
+  IsPageThere digest rows is = IsTrue is → ForRowsOf file_laws (digests_under hash_key (digest_rows hash_key rows)) (λ local. HasPage file_laws local digest)
 
   -- where it says no, no page that fills the gap has the digest
-  abbrev pub IsPageLacked : Gap Text → List ℕ → TextDigests → Bool → Type 0
-  IsPageLacked gap digest pairs is = is ≡ false → ForRowsOf file_laws (digests_under hash_key pairs) (λ local. ¬ HasPageAt file_laws local gap digest)
+  abbrev pub IsPageLacked : Gap Text → List ℕ → TextRows → Bool → Type 0
+  IsPageLacked gap digest rows is = is ≡ false → ForRowsOf file_laws (digests_under hash_key (digest_rows hash_key rows)) (λ local. ¬ HasPageAt file_laws local gap digest)
 
 module _ {S : Type 0} (g : Ghosts S) (hash_key : List ℕ) where
   -- the file has the tree of its latest registers
   abbrev pub IsFile : S → Type 0
-  IsFile trees = (pairs : TextDigests) × IsFileOf hash_key pairs g trees
+  IsFile trees = (rows : TextRows) × IsFileOf hash_key rows g trees
 
   module _ (old new : S) where
-    -- it has the tree of the keys of which it had the tree
+    -- it has the rows that it had, and their tree
     abbrev pub KeepsFile : Type 0
-    KeepsFile = (pairs : TextDigests) → IsFileOf hash_key pairs g old → IsFileOf hash_key pairs g new
+    KeepsFile = (rows : TextRows) → IsFileOf hash_key rows g old → IsFileOf hash_key rows g new
 
-    -- over a clean disk, the answer of a successful call says this of the keys of which the file had the tree
-    abbrev pub TellsFile : {A E : Type 0} → Result A E → (TextDigests → A → Type 0) → Type 0
-    TellsFile {A} result Is = IsClean g new → IfOk result (λ (found : A). (pairs : TextDigests) → IsFileOf hash_key pairs g old → Is pairs found)
+    -- over a clean disk, the answer of a successful call says this of the rows that the file had
+    abbrev pub TellsFile : {A E : Type 0} → Result A E → (TextRows → A → Type 0) → Type 0
+    TellsFile {A} result Is = IsClean g new → IfOk result (λ (found : A). (rows : TextRows) → IsFileOf hash_key rows g old → Is rows found)

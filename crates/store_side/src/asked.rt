@@ -1,16 +1,23 @@
 //! What is asked of the latest registers of a table of entries, within a transaction.
-ghost use Rattle.std.specs.Prelude.{ℕ, List};
+ghost use Rattle.std.specs.Prelude.{ℕ, List, IfOk, string_bytes};
+ghost use Rattle.key_order.specs.Map.{IsMap};
+ghost use Rattle.key_order.specs.Text.{text_order};
+ghost use Rattle.store_file.specs.Latest.{IsLatestAt};
 ghost use Rattle.store_file.specs.Logs.{Finds, HasEntryTable};
+ghost use Rattle.store_file.specs.Ranges.{AreLatestBetween};
 ghost use Rattle.store_file.specs.Transactions.{CommitsNothing};
 ghost use Rattle.store_file.specs.Walks.{MakesView, StaysBut};
 ghost use Rattle.store_side.specs.Asked.{IsDigestOf, IsSomeKey};
 
 use crate::digests::LatestDigests;
 use merkle_digest::ValueDigest;
+use merkle_wire::rows_ascend;
 use sqlite_trees::store::Store;
 use std::alloc::Global;
+use store_file::Register;
 use store_file::latest::latest_at;
-use store_file::range::first_key;
+use store_file::range::{first_key, latest_between};
+use store_file::table::Entries;
 use store_tree::TreeFault;
 use store_tree::pairs::DIGEST_LEN;
 
@@ -29,6 +36,41 @@ pub(crate) fn some_key<S: Store>(alloc: Global, trees: &mut S) -> Result<Option<
         return Err(TreeFault::Malformed);
     }
     Ok(Some(key))
+}
+
+/// The latest register of a key, where it has one.
+pub(crate) fn latest_of<S: Store>(
+    alloc: Global,
+    trees: &mut S,
+    key: &String,
+) -> Result<Option<Register>, TreeFault>
+    requires entries { HasEntryTable S.Store trees.old }
+    ensures latest { Finds S.Store trees.old trees.new result (λ old. IsLatestAt old (string_bytes key.now)) }
+    ensures same { MakesView S.Store trees.old trees.new result StaysBut }
+    ensures uncommitted { CommitsNothing S.Store trees.old trees.new }
+{
+    let found = latest_at(alloc, trees, key.as_str())?;
+    Ok(found)
+}
+
+/// The keys above one and below another, where there are these, each with its latest register.
+pub(crate) fn rows_of<S: Store>(
+    alloc: Global,
+    trees: &mut S,
+    after: &Option<String>,
+    before: &Option<String>,
+) -> Result<Entries, TreeFault>
+    requires entries { HasEntryTable S.Store trees.old }
+    ensures latest { Finds S.Store trees.old trees.new result (λ old rows. AreLatestBetween after.now before.now old rows.items) }
+    ensures ascending { IfOk result (λ rows. IsMap text_order rows.items) }
+    ensures same { MakesView S.Store trees.old trees.new result StaysBut }
+    ensures uncommitted { CommitsNothing S.Store trees.old trees.new }
+{
+    let rows = latest_between(alloc, trees, after, before)?;
+    if !rows_ascend(&rows) {
+        return Err(TreeFault::Malformed);
+    }
+    Ok(rows)
 }
 
 /// The digest of the latest register of a key, where it has one.

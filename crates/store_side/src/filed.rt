@@ -1,6 +1,6 @@
 //! What is asked of a store's file that has the tree of its latest registers.
 ghost use Rattle.std.specs.Prelude.{◌≡◌, IfOk, OnErr, OnOk};
-ghost use Rattle.key_order.specs.Map.{get};
+ghost use Rattle.key_order.specs.Map.{IsMap, get};
 ghost use Rattle.key_order.specs.Text.{text_order};
 ghost use Rattle.merkle_bytes.specs.Options.{IsOption};
 ghost use Rattle.merkle_search_tree.specs.Items.{bound_of, lent_gap};
@@ -8,20 +8,26 @@ ghost use Rattle.merkle_wire.specs.Sessions.{IsKeyOf};
 ghost use Rattle.sqlite_trees.specs.View.{IsRolledBack};
 ghost use Rattle.store_file.specs.Logs.{IsClean};
 ghost use Rattle.store_file.specs.Transactions.{StaysQuiet};
+ghost use Rattle.store_side.specs.Answered.{AreRowsBetween, IsFileOutline, IsRegisterAt, IsFileRoot};
+ghost use Rattle.store_side.specs.Digests.{digest_rows};
 ghost use Rattle.store_side.specs.FileTrees.{IsFile, IsPageLacked, IsPageThere, KeepsFile, SaysFilePage, TellsFile};
 ghost use Rattle.store_tree.specs.Pages.{text_gap};
 ghost use Rattle.store_tree.specs.Rows.{bound_bytes};
 
-use crate::asked::{digest_of, some_key};
+use crate::asked::{digest_of, latest_of, rows_of, some_key};
 use crate::digests::LatestDigests;
 use merkle_digest::{PageDigest, ValueDigest};
 use merkle_search_tree::Gap;
 use sqlite_trees::error::StoreError;
 use sqlite_trees::store::Store;
 use std::alloc::Global;
+use store_file::Register;
+use store_file::table::Entries;
 use store_tree::TreeFault;
+use store_tree::outline::{Outline, outline_over};
 use store_tree::over::is_page;
 use store_tree::pairs::DIGEST_LEN;
+use store_tree::root::root_digest;
 
 /// After an error takes back what isn't committed.
 fn settle<S: Store, A>(trees: &mut S, done: Result<A, TreeFault>) -> Result<A, TreeFault>
@@ -43,7 +49,7 @@ pub(crate) fn find_key<S: Store>(
     _digests: &LatestDigests,
 ) -> Result<Option<String>, TreeFault>
     requires file { IsFile S.Store _digests.now trees.old }
-    ensures key { TellsFile S.Store _digests.now trees.old trees.new result (λ pairs. IsOption (IsKeyOf text_order pairs)) }
+    ensures key { TellsFile S.Store _digests.now trees.old trees.new result (λ rows. IsOption (IsKeyOf text_order (digest_rows _digests.now rows))) }
     ensures kept { KeepsFile S.Store _digests.now trees.old trees.new }
     ensures steady { IsClean S.Store trees.new → IsClean S.Store trees.old }
 {
@@ -62,7 +68,8 @@ pub(crate) fn find_digest<S: Store>(
     key: &String,
 ) -> Result<Option<ValueDigest<DIGEST_LEN>>, TreeFault>
     requires file { IsFile S.Store digests.now trees.old }
-    ensures digest { TellsFile S.Store digests.now trees.old trees.new result (λ pairs found. found ≡ get text_order pairs key.now) }
+    ensures digest { TellsFile S.Store digests.now trees.old trees.new result
+        (λ rows found. found ≡ get text_order (digest_rows digests.now rows) key.now) }
     ensures kept { KeepsFile S.Store digests.now trees.old trees.new }
     ensures steady { IsClean S.Store trees.new → IsClean S.Store trees.old }
 {
@@ -121,4 +128,82 @@ pub(crate) fn find_page_at<S: Store>(
     let after = copy_bound(gap.after)?;
     let before = copy_bound(gap.before)?;
     find_page(alloc, trees, digests, &after, &before, digest)
+}
+
+/// The digest of the root page, or none where there is no key.
+pub(crate) fn find_root<S: Store>(
+    alloc: Global,
+    trees: &mut S,
+    digests: &LatestDigests,
+) -> Result<Option<PageDigest>, TreeFault>
+    requires file { IsFile S.Store digests.now trees.old }
+    ensures digest { TellsFile S.Store digests.now trees.old trees.new result (IsFileRoot digests.now) }
+    ensures kept { KeepsFile S.Store digests.now trees.old trees.new }
+    ensures steady { IsClean S.Store trees.new → IsClean S.Store trees.old }
+{
+    if trees.is_broken() {
+        return Err(TreeFault::Database(StoreError::Broken));
+    }
+    let found = root_digest(alloc, trees, digests);
+    settle(trees, found)
+}
+
+/// The outline of the page over a gap, or none where no page is over it.
+pub(crate) fn find_outline<S: Store>(
+    alloc: Global,
+    trees: &mut S,
+    digests: &LatestDigests,
+    after: &Option<String>,
+    before: &Option<String>,
+) -> Result<Option<Outline>, TreeFault>
+    requires file { IsFile S.Store digests.now trees.old }
+    ensures outline { TellsFile S.Store digests.now trees.old trees.new result (IsFileOutline digests.now (text_gap after.now before.now)) }
+    ensures kept { KeepsFile S.Store digests.now trees.old trees.new }
+    ensures steady { IsClean S.Store trees.new → IsClean S.Store trees.old }
+{
+    if trees.is_broken() {
+        return Err(TreeFault::Database(StoreError::Broken));
+    }
+    let found = outline_over(alloc, trees, digests, after, before);
+    settle(trees, found)
+}
+
+/// The latest register of a key, where it has one.
+pub(crate) fn find_latest<S: Store>(
+    alloc: Global,
+    trees: &mut S,
+    _digests: &LatestDigests,
+    key: &String,
+) -> Result<Option<Register>, TreeFault>
+    requires file { IsFile S.Store _digests.now trees.old }
+    ensures latest { TellsFile S.Store _digests.now trees.old trees.new result (IsRegisterAt key.now) }
+    ensures kept { KeepsFile S.Store _digests.now trees.old trees.new }
+    ensures steady { IsClean S.Store trees.new → IsClean S.Store trees.old }
+{
+    if trees.is_broken() {
+        return Err(TreeFault::Database(StoreError::Broken));
+    }
+    let found = latest_of(alloc, trees, key);
+    settle(trees, found)
+}
+
+/// The keys above one and below another, where there are these, each with its latest register.
+pub(crate) fn find_rows<S: Store>(
+    alloc: Global,
+    trees: &mut S,
+    _digests: &LatestDigests,
+    after: &Option<String>,
+    before: &Option<String>,
+) -> Result<Entries, TreeFault>
+    requires file { IsFile S.Store _digests.now trees.old }
+    ensures rows { TellsFile S.Store _digests.now trees.old trees.new result (AreRowsBetween after.now before.now) }
+    ensures ascending { IfOk result (λ rows. IsMap text_order rows.items) }
+    ensures kept { KeepsFile S.Store _digests.now trees.old trees.new }
+    ensures steady { IsClean S.Store trees.new → IsClean S.Store trees.old }
+{
+    if trees.is_broken() {
+        return Err(TreeFault::Database(StoreError::Broken));
+    }
+    let found = rows_of(alloc, trees, after, before);
+    settle(trees, found)
 }

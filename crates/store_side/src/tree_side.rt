@@ -1,16 +1,17 @@
-//! The tree of a store in its file, as a session asks of it.
+//! The tree of a store in its file, as a session asks of it and tells of it.
 ghost use Rattle.std.specs.Prelude.{◌≡◌};
 ghost use Rattle.store_file.specs.Logs.{IsClean};
 ghost use Rattle.store_side.specs.FileTrees.{IsFile};
-ghost use Rattle.store_side.specs.Sides.{kept_in_file};
+ghost use Rattle.store_side.specs.Sides.{file_contents, kept_in_file};
 
 use crate::digests::LatestDigests;
-use crate::filed::{find_digest, find_key, find_page_at};
+use crate::filed::{find_digest, find_key, find_page_at, find_root};
 use crate::noted::{Noted, note};
+use crate::told::{add_latest, add_page, add_rows, count_rows};
 use merkle_digest::{Digest, Hasher, PageDigest, SipHasher, ValueDigest, default_level_base};
 use merkle_search_tree::Gap;
 use merkle_search_tree::builder::PageFormat;
-use merkle_wire::KeptTree;
+use merkle_wire::{KeptSide, KeptTree, OwnedGap, Settings, Telling, are_settings_of};
 use sqlite_trees::store::Store;
 use std::alloc::Global;
 use std::marker::Model;
@@ -19,7 +20,7 @@ use store_file::Register;
 use store_tree::TreeFault;
 use store_tree::pairs::DIGEST_LEN;
 
-/// The tree of a store in its file, for a session that asks a peer: no tree and no rows in memory. It keeps a hash key, and the trees of the file.
+/// The tree of a store in its file, for a session that asks a peer or answers one: no tree in memory. It keeps a hash key, and the trees of the file.
 ///
 /// What isn't known of the tree's pages is found out and written, and stays uncommitted. After an error all that isn't committed is taken back.
 pub struct FileTree<S: Store> {
@@ -35,9 +36,9 @@ impl<S: Store> Model for FileTree<S> {
 
     ghost Value = { FileSide S };
 
-    ghost view = { λ side. record { trees = side.trees; hash_key = side.digests; pairs = side.noted.pairs } };
+    ghost view = { λ side. record { trees = side.trees; hash_key = side.digests; rows = side.noted.rows } };
 
-    ghost invariant = { λ side. IsFileOf side.digests side.noted.pairs S.Store side.trees };
+    ghost invariant = { λ side. IsFileOf side.digests side.noted.rows S.Store side.trees };
 }
 
 impl<S: Store> FileTree<S> {
@@ -105,5 +106,80 @@ impl<S: Store> KeptTree<DIGEST_LEN, String, Register, SipHasher> for FileTree<S>
 
     fn is_page(&mut self, gap: &Gap<'_, String>, digest: &PageDigest) -> Result<bool, TreeFault> {
         find_page_at(self.alloc, &mut self.trees, &self.digests, gap, digest)
+    }
+}
+
+/// The tree and the rows of a store in its file, for a session that answers a peer. Pages are told by digests, so a peer asks for the rows that it
+/// lacks by their keys.
+///
+/// `root_digest` costs what [`root_digest`](store_tree::root::root_digest) says, `tell_page` what [`outline_over`](store_tree::outline::outline_over)
+/// says, and `add_value` a look into the table of entries. `add_part` reads the entries of all keys in the gap, and `count` those of all keys, and
+/// both take memory for the latest of each.
+impl<S: Store> KeptSide<DIGEST_LEN, String, Register, SipHasher, ()> for FileTree<S> {
+    type Error = TreeFault;
+
+    ghost contents = { λ side _. file_contents side };
+
+    ghost is_sound = { λ side. IsClean S.Store side.trees };
+
+    fn has_settings(&self, _beside: &(), settings: &Settings<String>) -> bool {
+        are_settings_of(self, settings)
+    }
+
+    fn hash(&mut self, _beside: &()) -> Result<(), TreeFault> {
+        Ok(())
+    }
+
+    fn count(&mut self, _beside: &()) -> Result<u64, TreeFault> {
+        count_rows(self.alloc, &mut self.trees, &self.digests)
+    }
+
+    fn root_digest(&mut self, _beside: &()) -> Result<Option<PageDigest>, TreeFault> {
+        find_root(self.alloc, &mut self.trees, &self.digests)
+    }
+
+    fn tell_page(
+        &mut self,
+        alloc: Global,
+        _beside: &(),
+        telling: Telling,
+        gap: &OwnedGap<String>,
+        bytes: &mut Vec<u8>,
+    ) -> Result<(), TreeFault> {
+        add_page(
+            alloc,
+            &mut self.trees,
+            &self.digests,
+            &self.noted,
+            telling,
+            gap,
+            bytes,
+        )
+    }
+
+    fn add_value(
+        &mut self,
+        _beside: &(),
+        key: &String,
+        bytes: &mut Vec<u8>,
+    ) -> Result<bool, TreeFault> {
+        add_latest(self.alloc, &mut self.trees, &self.digests, key, bytes)
+    }
+
+    fn add_part(
+        &mut self,
+        _beside: &(),
+        most_bytes: usize,
+        gap: &OwnedGap<String>,
+        bytes: &mut Vec<u8>,
+    ) -> Result<(), TreeFault> {
+        add_rows(
+            self.alloc,
+            &mut self.trees,
+            &self.digests,
+            most_bytes,
+            gap,
+            bytes,
+        )
     }
 }

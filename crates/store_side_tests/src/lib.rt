@@ -5,3 +5,5 @@
 mod logs;
 #[cfg(test)]
 mod random_logs;
+#[cfg(test)]
+mod sessions;

@@ -1,6 +1,5 @@
 //! Random writes to a log, after which its table of cells tells what the tree of its replica tells.
-use crate::logs::{Told, add_and_ask, empty};
-use merkle_digest::level;
+use crate::logs::{Told, Write, empty, write_and_ask};
 use merkle_search_tree::OutlineItem;
 use merkle_store::rows::{EntryReplica, read_replica};
 use sqlite_trees::memory::MemStore;
@@ -10,7 +9,6 @@ use std::test::Fail;
 use store_file::format::HASH_KEY_LEN;
 use store_file::log::Log;
 use store_file::{Register, Value};
-use store_side::LatestDigests;
 use store_tree_tests::same::{are_items, is_digest, lent};
 use test_keys::Random;
 
@@ -41,6 +39,18 @@ fn entry(alloc: Global, random: &mut Random, keys: u64) -> Result<(String, Regis
         value: value(alloc, random)?,
     };
     Ok((key_of(alloc, random.below(keys))?, register))
+}
+
+/// A random write: of one to three entries, and now and then in place of all others.
+fn some_write(alloc: Global, random: &mut Random, keys: u64) -> Result<Write, AllocError> {
+    let mut entries = Vec::new(alloc);
+    for _ in 0..random.below(3).saturating_add(1) {
+        entries.push(entry(alloc, random, keys)?)?;
+    }
+    Ok(Write {
+        entries,
+        anew: random.below(30) == 0,
+    })
 }
 
 /// A bound by a random number: half of the time there is none.
@@ -77,24 +87,17 @@ fn is_over(
     Ok(!list.is_empty() && are_items(&items, &list))
 }
 
-/// Adds a random entry, and returns the log, if its table of cells then tells what the tree of its replica tells.
-fn add_at_random(
+/// Makes a random write, and returns the log, if its table of cells then tells what the tree of its replica tells.
+fn write_at_random(
     rt: &impl Abort,
     alloc: Global,
     log: Log<MemStore>,
     random: &mut Random,
     keys: u64,
 ) -> Result<Option<Log<MemStore>>, Fail> {
-    let mut log = log;
-    let entry = entry(alloc, random, keys)?;
+    let write = some_write(alloc, random, keys)?;
     let gap = (bound(alloc, random, keys)?, bound(alloc, random, keys)?);
-    let before = read_replica(alloc, &mut log, &HASH_KEY)?;
-    let on = level(
-        &before.tree().key_digest(&entry.0),
-        before.tree().level_base(),
-    );
-    let pairs = LatestDigests::new(&HASH_KEY);
-    let (mut log, told) = add_and_ask(rt, alloc, log, &pairs, on, &entry, &gap)?;
+    let (mut log, told) = write_and_ask(rt, alloc, log, &HASH_KEY, &write, &gap)?;
     let mut replica = read_replica(alloc, &mut log, &HASH_KEY)?;
     replica.hash();
     if !is_root(&told, &replica) || !is_over(alloc, &told, &replica, &gap)? {
@@ -112,7 +115,7 @@ fn random_writes_leave_the_tree_of_the_replica(rt: HostRuntime) -> Result<(), Fa
         let mut random = Random::new(keys);
         let mut log = empty(rt.alloc())?;
         for _ in 0..times {
-            let added = add_at_random(&rt, rt.alloc(), log, &mut random, keys)?;
+            let added = write_at_random(&rt, rt.alloc(), log, &mut random, keys)?;
             log = added.ok_or("another tree")?;
         }
     }

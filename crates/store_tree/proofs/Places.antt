@@ -111,7 +111,8 @@ filter_insert test new (e ∷ es) up t ties = by (entry_cmp plain e new) refl (w
         (h, all_weaker (λ x. entry_cmp plain e x ≡ Less) (λ x. entry_cmp plain x new ≡ Greater) (λ x low. beyond e x new h low) es up.0) in
         rw t (sym (insert_front new (filter test (e ∷ es)) (all_filter (λ x. entry_cmp plain x new ≡ Greater) test (e ∷ es) a)))
 
-filter_insert_other : (test : Row → Bool) (new : Row) (es : List Row) → test new ≡ false → filter test (insert_entry plain new es) ≡ filter test es
+-- an entry that doesn't pass a test, put in place, changes nothing of what does
+pub filter_insert_other : (test : Row → Bool) (new : Row) (es : List Row) → test new ≡ false → filter test (insert_entry plain new es) ≡ filter test es
 filter_insert_other test new [] t = rw t refl
 filter_insert_other test new (e ∷ es) t = by (entry_cmp plain e new) (filter_insert_other test new es t)
   where

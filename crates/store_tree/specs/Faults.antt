@@ -11,6 +11,12 @@ abbrev pub tree_fault_of : StoreError → TreeFault
 tree_fault_of OutOfMemory = fault.Memory
 tree_fault_of other = fault.Database other
 
+-- what a fault of a tree is to a caller that writes a log
+abbrev pub log_fault_of : TreeFault → StoreFault
+log_fault_of (fault.Database error) = log.Database error
+log_fault_of fault.Memory = log.Memory
+log_fault_of fault.Malformed = log.Malformed
+
 -- what a fault of a log is to a caller
 abbrev pub fault_of_log : StoreFault → TreeFault
 fault_of_log (log.Database error) = fault.Database error

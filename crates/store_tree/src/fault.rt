@@ -43,6 +43,20 @@ impl From<StoreFault> for TreeFault {
     }
 }
 
+impl From<TreeFault> for StoreFault {
+    ghost use Rattle.store_tree.specs.Faults.{log_fault_of};
+
+    ghost from_gives = { λ error fault. fault ≡ log_fault_of error };
+
+    fn from(error: TreeFault) -> Self {
+        match error {
+            TreeFault::Database(error) => StoreFault::Database(error),
+            TreeFault::Memory => StoreFault::Memory,
+            TreeFault::Malformed => StoreFault::Malformed,
+        }
+    }
+}
+
 impl From<AllocError> for TreeFault {
     ghost use Rattle.store_tree.specs.declared.fault.TreeFault.TheVariants.{Memory};
 

@@ -2,7 +2,8 @@ use Rattle.std.proofs.Common.{sym, ◌∙◌, rules}
 use Rattle.store_file.specs.Logs.{trees_of}
 use Rattle.store_side.specs.Digests.{HoldsDigests}
 use Rattle.store_side.specs.FileTrees.{SaysFilePage}
-use Rattle.store_side.proofs.Files.{page_found, search_stays, settled_clean, settled_keeps, settled_tells}
+use Rattle.store_side.proofs.Files.{search_stays, settled_clean, settled_keeps, settled_tells, tree_found}
+use Rattle.store_side.proofs.Holding.{digests_ascend}
 use Rattle.store_side.proofs.filed.find_page.Goals as goal
 use Rattle.store_tree.specs.Calls.{FindsInTree, SaysPage}
 use Rattle.store_tree.specs.Pages.{text_gap}
@@ -17,17 +18,17 @@ returns-clause-page g c =
     settled_tells s g.met.S.Store.broken_if_shut old mid c.is_page-found.ensures.uncommitted c.settle.new.trees c.settle.result c.is_page-found.result c.settle.ensures.same c.settle.ensures.kept
     (λ clean. sym (c.is_broken.ensures clean) ∙ (search rules)) hash_key (FindsInTree (HoldsDigests hash_key) (SaysPage gap c.args.digest.now) (trees_of s old) (trees_of s mid))
     (SaysFilePage hash_key gap c.args.digest.now) c.is_page-found.ensures.page
-    (λ is finds pairs has. page_found hash_key pairs gap c.args.digest.now (trees_of s old) (trees_of s mid) is finds has)
+    (λ is finds rows has. (digests_ascend hash_key rows has.latest.ascending, tree_found hash_key rows (SaysPage gap c.args.digest.now) (trees_of s old) (trees_of s mid) is finds has))
 
 pub returns-clause-kept : goal.returns-clause-kept
-returns-clause-kept g c pairs was =
+returns-clause-kept g c rows was =
     let s = g.S.Store in
     let old = c.args.trees.now in
     let mid = c.is_page-found.new.trees in
     settled_keeps s g.met.S.Store.broken_if_shut old mid c.is_page-found.ensures.uncommitted c.settle.new.trees c.settle.result c.is_page-found.result c.settle.ensures.same c.settle.ensures.kept
-    c.settle.ensures.undone c.settle.ensures.quiet (λ clean. sym (c.is_broken.ensures clean) ∙ (search rules)) c.args.digests.now pairs
-    (search_stays s old mid c.is_page-found.result c.args.digests.now (text_gap c.args.after.now c.args.before.now) c.args.digest.now c.is_page-found.ensures.page
-    c.is_page-found.ensures.others pairs) was
+    c.settle.ensures.undone c.settle.ensures.quiet (λ clean. sym (c.is_broken.ensures clean) ∙ (search rules)) c.args.digests.now rows
+    (search_stays s old mid c.is_page-found.result c.args.digests.now (SaysPage (text_gap c.args.after.now c.args.before.now) c.args.digest.now) c.is_page-found.ensures.page
+    c.is_page-found.ensures.others rows) was
 
 pub returns-clause-steady : goal.returns-clause-steady
 returns-clause-steady g c clean =

@@ -51,6 +51,6 @@ note_spec 𝓤 𝓛 𝓜 𝓡 wired S L g d m =
     enter ! 𝓣.C 𝓣.Λ fn (first ∷ second ∷ []) _ $
     alloc_all ! (λ l. pass_all ! refl ((tt, tt), ((tt, tt), tt)) $ sets ! (agg ! (no_more !)) refl (tt, tt) $
     returns ! (look_at ! 0 refl) $ free_all ! refl $
-    suffices ! _ (ends_at 𝓛 ended stayed c y (vstruct vnil) (record { pairs = file.0 }) (tt, (tt, tt)) (tt, (tt, tt))) $
-    says ! file.1 $ pure_i ! (noted.the_row.own_val (record { pairs = file.0 }) (vstruct vnil ∷ [])) ((λ vss. (tt, tt)), tt) ((tt, (refl, tt)), tt) $
+    suffices ! _ (ends_at 𝓛 ended stayed c y (vstruct vnil) (record { rows = file.0 }) (tt, (tt, tt)) (tt, (tt, tt))) $
+    says ! file.1 $ pure_i ! (noted.the_row.own_val (record { rows = file.0 }) (vstruct vnil ∷ [])) ((λ vss. (tt, tt)), tt) ((tt, (refl, tt)), tt) $
     move ! (1 ∷ 2 ∷ 0 ∷ []) $ done !)))

@@ -1,0 +1,31 @@
+use Rattle.std.proofs.Common.{string_bytes, sym, ◌∙◌, rules}
+use Rattle.store_file.specs.Logs.{trees_of}
+use Rattle.store_file.specs.Latest.{IsLatestAt}
+use Rattle.store_side.specs.Answered.{IsRegisterAt}
+use Rattle.store_side.proofs.Files.{reads_stay, settled_clean, settled_keeps, settled_tells}
+use Rattle.store_side.proofs.filed.find_latest.Goals as goal
+
+pub returns-clause-latest : goal.returns-clause-latest
+returns-clause-latest g c =
+    let s = g.S.Store in
+    let old = c.args.trees.now in
+    let mid = c.latest_of-found.new.trees in
+    let hash_key = c.args._digests.now in
+    settled_tells s g.met.S.Store.broken_if_shut old mid c.latest_of-found.ensures.uncommitted c.settle.new.trees c.settle.result c.latest_of-found.result c.settle.ensures.same c.settle.ensures.kept
+    (λ clean. sym (c.is_broken.ensures clean) ∙ (search rules)) hash_key (IsLatestAt (trees_of s old) (string_bytes c.args.key.now))
+    (IsRegisterAt c.args.key.now) c.latest_of-found.ensures.latest
+    (λ found latest rows has. has.latest.latest c.args.key.now found latest)
+
+pub returns-clause-kept : goal.returns-clause-kept
+returns-clause-kept g c rows was =
+    let s = g.S.Store in
+    let old = c.args.trees.now in
+    let mid = c.latest_of-found.new.trees in
+    settled_keeps s g.met.S.Store.broken_if_shut old mid c.latest_of-found.ensures.uncommitted c.settle.new.trees c.settle.result c.latest_of-found.result c.settle.ensures.same c.settle.ensures.kept
+    c.settle.ensures.undone c.settle.ensures.quiet (λ clean. sym (c.is_broken.ensures clean) ∙ (search rules)) c.args._digests.now rows
+    (reads_stay s old mid c.latest_of-found.result c.latest_of-found.ensures.same c.args._digests.now rows) was
+
+pub returns-clause-steady : goal.returns-clause-steady
+returns-clause-steady g c clean =
+    settled_clean g.S.Store g.met.S.Store.broken_if_shut c.args.trees.now c.latest_of-found.new.trees c.latest_of-found.ensures.uncommitted c.settle.new.trees c.settle.result c.settle.ensures.kept
+    c.settle.ensures.quiet clean
