@@ -11,6 +11,9 @@ use std::alloc::{AllocError, Global};
 /// The version of the messages.
 const VERSION: u8 = 1;
 
+/// How many bytes a message has room for at first: as many as most questions for the root have, and each reply to one, so these don't grow.
+const ROOM: usize = 64;
+
 /// What a message is.
 #[derive(Clone, Copy, Debug, PartialEq, Eq, Drop)]
 pub enum Kind {
@@ -81,7 +84,9 @@ fn kind_of(byte: u8) -> Option<Kind>
 pub(crate) fn begin(alloc: Global, kind: Kind) -> Result<Vec<u8>, AllocError>
     ensures { IfOk result (λ bytes. bytes.items ≡ front kind) }
 {
-    Vec::from_slice(alloc, &[VERSION, byte_of(kind)])
+    let mut bytes = Vec::with_capacity(alloc, ROOM)?;
+    bytes.extend_from_slice(&[VERSION, byte_of(kind)])?;
+    Ok(bytes)
 }
 
 /// Reads the front of a message.
