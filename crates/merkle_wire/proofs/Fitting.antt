@@ -37,14 +37,10 @@ found_each cmp o P (p ∷ ps) k d a e = go (which (is_eq (cmp p.0 k))) (found_ea
 
 -- on the side that reads
 module _ {K V : Type 0} (cmp : K → K → Ordering) (n : ℕ) where
-  one_lies : (gap : Gap K) (x : Outline K V) → LiesIn cmp n gap x → Fits n x
+  pub one_lies : (gap : Gap K) (x : Outline K V) → LiesIn cmp n gap x → Fits n x
   one_lies gap (rows_told rows) l = tt
   one_lies gap (digests_told nodes) l = l.1
   one_lies gap (page_told digest keys pages) l = (l.2, omega (arith, l.4), l.3)
-
-  pub fits_lie : (ts : List (OwnedGap K × Outline K V)) → AllByRecursion (λ t. LiesIn cmp n (owned_gap t.0) t.1) ts → AllByRecursion (λ t. Fits n t.1) ts
-  fits_lie [] l = tt
-  fits_lie (t ∷ ts) l = (one_lies (owned_gap t.0) t.1 l.0, fits_lie ts l.1)
 
 module _ {K V H : Type 0} (laws : Laws K V H) (local : Side K V H) (n : ℕ) where
   gaps_length : (gap : Gap K) (ks : List K) (ps : List (Option (List ℕ))) (new : List (Gap K)) → AreNewGaps laws local gap ks ps new → length ps ≡ suc (length ks)

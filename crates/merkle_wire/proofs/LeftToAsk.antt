@@ -1,10 +1,9 @@
 -- What is left of what was asked for.
-use Rattle.std.proofs.Common.{◌≡◌, ◌≢◌, ℕ, true, false, ◌==◌, List, [], ◌∷◌, ◌++◌, length, take, drop, map, Some, None, refl, ap, sym, ◌∙◌, inl, inr, arith}
+use Rattle.std.proofs.Common.{◌≡◌, ◌≢◌, ℕ, true, false, ◌==◌, List, [], ◌∷◌, length, map, Some, None, refl, ap, inl, inr, arith}
 use Rattle.std.specs.Global.{Vec}
 use Rattle.std.specs.Vec.{vec_len}
 use Rattle.std.proofs.lemmas.Bool.{eqb-true}
 use Rattle.std.proofs.lemmas.Bool.Decides.{nat_tests}
-use Rattle.std.proofs.lemmas.List.{take-append-drop}
 use Rattle.merkle_wire.specs.Taking.{AsksAgain}
 use Rattle.merkle_wire.specs.declared.question.Question.{Question}
 
@@ -28,10 +27,6 @@ module _ {X : Type 0} where
   pub some_mapped : {Y : Type 0} (f : X → Y) (xs : List X) → xs ≢ [] → map f xs ≢ []
   some_mapped f [] some e = some refl
   some_mapped f (x ∷ xs) some e = absurd (cc)
-
-  -- what is asked for has been told of, but for what is left
-  pub told_and_left : {Y : Type 0} (told : List (X × Y)) (asked left : List X) (n : ℕ) → map (λ t. t.0) told ≡ take n asked → left ≡ drop n asked → asked ≡ map (λ t. t.0) told ++ left
-  told_and_left told asked left n t l = sym (take-append-drop n asked) ∙ ap (λ xs. xs ++ drop n asked) (sym t) ∙ ap (λ ys. map (λ t. t.0) told ++ ys) (sym l)
 
   -- where bytes are left only once all was told, nothing is left while some are
   pub none_before : (left : List X) (bytes : List ℕ) → (left ≢ [] → bytes ≡ []) → bytes ≢ [] → left ≡ []

@@ -11,7 +11,6 @@ pub mod RowParts
 pub mod Ascending
 pub mod Reading
 pub mod TakenMore
-pub mod Takings
 pub mod HashedDigests
 pub mod NewGaps
 pub mod TakenGaps
@@ -32,7 +31,6 @@ pub mod WrittenKeys
 pub mod LeftToAsk
 pub mod NextMessages
 pub mod PartsRead
-pub mod ValuesRead
 pub mod OutlinesRead
 pub mod AskedFor
 pub mod WithinLimits

@@ -4,7 +4,11 @@ use Rattle.std.specs.declared.cmp.Ordering.{Ordering}
 use Rattle.merkle_replica.specs.Contents.{Side}
 use Rattle.merkle_replica.specs.Laws.{Laws}
 use Rattle.merkle_wire.specs.Underway.{IsAskedOf, AsksNothingMore, Found, Underway}
-use Rattle.merkle_wire.specs.Faults.{IsRefusedFor}
+use Rattle.merkle_wire.specs.ByDigests.{IsStoppedWith}
+use Rattle.merkle_wire.specs.Faults.{IsNotTaken, IsRefusedFor}
+use Rattle.merkle_wire.specs.ItsRows.{Digests, side_of}
+use Rattle.merkle_wire.specs.declared.session_error.TakeError.{TakeError}
+use Rattle.merkle_wire.specs.declared.session_error.TakeError.TheVariants.{Session, Tree}
 use Rattle.merkle_wire.specs.Fit.{IsFit}
 use Rattle.merkle_wire.specs.Next.{AsksOrGoesOn, GoesOn, HaveTwins, IsAsked, IsCame, IsEnded, IsNext, IsStopped, rounds_with, IfAsks}
 use Rattle.merkle_wire.specs.Questions.{question_bytes}
@@ -105,3 +109,9 @@ module _ {K V H : Type 0} (laws : Laws K V H) (n : ℕ) (encoding : K → List �
       subst (λ u. IsStopped laws n encoding values is_key is_value local u reply error) s
       (subst (λ t. IsStopped laws n encoding values is_key is_value t inside reply error) l
       (ended_stops laws n encoding values is_key is_value was inside reply found error (subst (HasTakenReply laws n encoding values was inside.asked reply inside.found found) a taken) ended))
+
+  -- and so does the side that has the digests, whose reply is not taken
+  pub not_taken_stops : {E : Type 0} (own : Digests K H) (before : Underway K V) (reply : List ℕ) (error : TakeError E)
+      → IsNotTaken (¬ IsFit laws.cmp is_key is_value encoding values n before.asked reply) error → IsStoppedWith laws own n encoding values is_key is_value before reply error
+  not_taken_stops own before reply (Session error) not = λ rows of. refused_stops laws n encoding values is_key is_value (side_of own rows) before reply error not
+  not_taken_stops own before reply (Tree error) not = tt

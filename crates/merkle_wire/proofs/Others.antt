@@ -1,13 +1,12 @@
 -- What else bytes could say of which the first entries were read: nothing, where the next entry isn't there, or where more is after the last.
 use Rattle.std.specs.Prelude.{⊤}
-use Rattle.std.proofs.Common.{◌≡◌, ◌≢◌, ℕ, ◌+◌, ◌<◌, ◌≤◌, List, [], ◌∷◌, ◌++◌, append_assoc, append-nil, length, take, drop, get_or, map, refl, sym, ap, subst, ◌∙◌, arith}
-use Rattle.std.proofs.lemmas.List.{drop_more, length-append, take-append-drop}
+use Rattle.std.proofs.Common.{◌≡◌, ◌≢◌, ℕ, ◌≤◌, List, [], ◌∷◌, ◌++◌, append_assoc, append-nil, length, map, refl, sym, ap, subst, ◌∙◌, arith}
+use Rattle.std.proofs.lemmas.List.{length-append}
 use Rattle.std.specs.List.{AllByRecursion, flat_map}
 use Rattle.merkle_wire.specs.Fit.{Says}
 use Rattle.merkle_wire.specs.Messages.{front}
 use Rattle.merkle_wire.specs.declared.message.Kind.{Kind}
 use Rattle.merkle_wire.proofs.Fronts.{front_told}
-use Rattle.merkle_wire.proofs.Reading.{AreRead}
 
 module _ {X Y : Type 0} (bytes : X × Y → List ℕ) (P Q : X × Y → Type 0) (some : (t : X × Y) → 1 ≤ length (bytes t))
     (ends : (x : X) (y z : Y) (r s : List ℕ) → P (x, y) → Q (x, z) → bytes (x, y) ++ r ≡ bytes (x, z) ++ s → r ≡ s) where
@@ -48,12 +47,6 @@ module _ {X Y : Type 0} (bytes : X × Y → List ℕ) (P Q : X × Y → Type 0) 
         go : (vs : List (X × Y)) → [] ≡ map (λ t. t.0) vs ++ others → rest ≡ flat_map bytes vs → ⊥
         go [] b f = more f
         go (v ∷ vs) b f = absurd (cc)
-
-  -- the next of what was asked for is after what was read
-  pub next_of : (R : X × Y → Type 0) (asked : List X) (begun left : List ℕ) (i : ℕ) (ts : List (X × Y)) (x : X) → AreRead R bytes asked begun i left ts → i < length asked → x ≡ get_or asked i x
-      → map (λ t. t.0) ts ++ x ∷ drop (i + 1) asked ≡ asked
-  next_of R asked begun left i ts x r low is =
-      ap (λ t. t ++ x ∷ drop (i + 1) asked) r.of ∙ ap (λ t. take i asked ++ t) (ap (λ z. z ∷ drop (i + 1) asked) is ∙ sym (drop_more asked i x low)) ∙ take-append-drop i asked
 
 -- of each entry holds what holds of all
 pub all_told : {X : Type 0} (xs : List X) → AllByRecursion (λ x. ⊤) xs

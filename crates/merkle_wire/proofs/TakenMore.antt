@@ -1,8 +1,9 @@
 -- What was taken, one more after the others.
 use Rattle.std.proofs.Common.{◌≡◌, ℕ, List, [], ◌∷◌, ◌++◌, map, refl, ap, sym, subst, ◌∙◌, append_assoc, append-nil, not, cond, Bool, true, false}
-use Rattle.std.specs.List.{filter}
+use Rattle.std.specs.List.{filter, flat_map}
 use Rattle.std.specs.declared.cmp.Ordering.{Ordering}
 use Rattle.std.proofs.lemmas.List.Elements.{filter-append}
+use Rattle.std.proofs.lemmas.Grind.{flat_map-append}
 use Rattle.std.proofs.lemmas.List.{map-append}
 use Rattle.merkle_replica.specs.Contents.{Side}
 use Rattle.merkle_replica.specs.Laws.{Laws}
@@ -11,7 +12,7 @@ use Rattle.merkle_wire.specs.Underway.{Found}
 use Rattle.merkle_wire.specs.Gaps.{owned_gap}
 use Rattle.merkle_wire.specs.Outlines.{Outline}
 use Rattle.merkle_wire.specs.Replies.{Part}
-use Rattle.merkle_wire.specs.Taking.{IsPageTaken, AreTaken, IsBehind, AreBehind, has_digest, new_keys}
+use Rattle.merkle_wire.specs.Taking.{AddsRows, IsPageTaken, AreTaken, IsBehind, AreBehind, has_digest, new_keys}
 use Rattle.merkle_wire.specs.declared.gaps.OwnedGap.{OwnedGap}
 use Rattle.merkle_wire.proofs.Lacking.{has_row, new_rows}
 
@@ -37,6 +38,13 @@ module _ {K V H : Type 0} (laws : Laws K V H) (local : Side K V H) where
   rows-more before mid after rows more m a =
       a ∙ ap {A = Found K V} (λ f. record f { rows = f.rows ++ new_rows laws local more }) m
       ∙ (λ i. record before { rows = (append_assoc before.rows (new_rows laws local rows) (new_rows laws local more) ∙ ap (λ t. before.rows ++ t) (sym (new_rows-append rows more))) i })
+
+  -- so are those that one more entry tells
+  pub rows_of_more : {X : Type 0} (tells : X → List (K × V)) (ts : List X) (t : X) (before mid after : Found K V)
+      → AddsRows laws local (flat_map tells ts) before mid → AddsRows laws local (tells t) mid after → AddsRows laws local (flat_map tells (ts ++ t ∷ [])) before after
+  rows_of_more tells ts t before mid after m a =
+      subst (λ rows. AddsRows laws local rows before after) (ap (λ rows. flat_map tells ts ++ rows) (sym (append-nil (tells t))) ∙ sym (flat_map-append tells ts (t ∷ [])))
+      (rows-more before mid after (flat_map tells ts) (tells t) m a)
 
   pub new_keys-append : (xs ys : List (K × List ℕ)) → new_keys laws local (xs ++ ys) ≡ new_keys laws local xs ++ new_keys laws local ys
   new_keys-append xs ys =

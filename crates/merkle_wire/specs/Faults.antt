@@ -13,6 +13,8 @@ use Rattle.merkle_wire.specs.declared.session.MessagesError.{MessagesError}
 use Rattle.merkle_wire.specs.declared.session.MessagesError.TheVariants as messages
 use Rattle.merkle_wire.specs.declared.session_error.SessionError.{SessionError}
 use Rattle.merkle_wire.specs.declared.session_error.SessionError.TheVariants as session
+use Rattle.merkle_wire.specs.declared.session_error.TakeError.{TakeError}
+use Rattle.merkle_wire.specs.declared.session_error.TakeError.TheVariants.{Session, Tree}
 
 -- the bytes are no message: memory was not the reason, nor were settings
 abbrev pub IsUnread : AnswerError → Type 0
@@ -36,6 +38,11 @@ IsRefusedFor reason session.TooManyRounds = ⊥
 IsRefusedFor reason session.Twice = ⊥
 IsRefusedFor reason (session.Limit limit) = ⊥
 IsRefusedFor reason _ = reason
+
+-- a reply is not taken, as the tree can't be read, or it is refused for this reason
+abbrev pub IsNotTaken : {E : Type 0} → Type 0 → TakeError E → Type 0
+IsNotTaken reason (Session error) = IsRefusedFor reason error
+IsNotTaken reason (Tree error) = ⊤
 
 -- why a message has no reply
 abbrev pub answer_error_text : AnswerError → List ℕ

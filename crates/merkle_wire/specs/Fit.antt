@@ -1,5 +1,5 @@
 -- What can be told of what was asked for. A reply that tells it is taken, and no other is.
-use Rattle.std.specs.Prelude.{◌≡◌, ◌≢◌, ℕ, ◌<◌, ◌+◌, ◌^◌, List, [], ◌++◌, length, map, Bool, true, false, Option, flat_map, ⊤}
+use Rattle.std.specs.Prelude.{◌≡◌, ◌≢◌, ℕ, ◌<◌, ◌+◌, ◌^◌, List, [], ◌++◌, length, map, Bool, true, false, Option, ⊤}
 use Rattle.std.specs.List.{AllByRecursion}
 use Rattle.std.specs.declared.cmp.Ordering.{Ordering}
 use Rattle.merkle_bytes.specs.Options.{IsOption}
@@ -71,8 +71,3 @@ module _ {K V : Type 0} (cmp : K → K → Ordering) (is_key : K → Type 0) (is
 
   abbrev pub NoPart : OwnedGap K → List ℕ → Type 0
   NoPart gap = BeginsWithNo (part_bytes encoding values (bound_key encoding [] gap.after)) (IsPartIn cmp is_key is_value (owned_gap gap))
-
-  -- bytes are not parts of the rows in the first of the gaps and nothing else
-  abbrev pub NoParts : List (OwnedGap K) → List ℕ → Type 0
-  NoParts gaps left = (told : List (OwnedGap K × Part K V)) (others : List (OwnedGap K)) → gaps ≡ map (λ t. t.0) told ++ others
-      → AllByRecursion (λ t. IsPartIn cmp is_key is_value (owned_gap t.0) t.1) told → left ≢ flat_map (part_in_bytes encoding values) told

@@ -1,32 +1,20 @@
 -- What is written and read of a reply, step by step.
-use Rattle.std.specs.Prelude.{◌≡◌, ℕ, ◌+◌, List, [], ◌++◌, length, Bool, true, false, None, Some, ◌⊎◌, ◌≤◌, ◌∷◌, map, flat_map, take, Option}
+use Rattle.std.specs.Prelude.{◌≡◌, ℕ, ◌+◌, List, [], ◌++◌, length, Bool, true, false, None, Some, ◌⊎◌, ◌∷◌, map, Option}
 use denote.Ref.{Bor}
 use Rattle.std.specs.Global.{Vec}
 use Rattle.std.specs.declared.cmp.Ordering.{Ordering}
 use Rattle.key_order.specs.Map.{get}
 use Rattle.merkle_bytes.specs.Encodings.{AddsBytes}
 use Rattle.merkle_bytes.specs.Runs.{bound_key, row_behind}
-use Rattle.merkle_replica.specs.Contents.{Contents, Side}
+use Rattle.merkle_replica.specs.Contents.{Contents}
 use Rattle.merkle_wire.specs.Outlines.{Outline, IsTold, outline_bytes, keys_among, node_pairs, AreRowsAt, rows_told, digests_told, page_told}
-use Rattle.merkle_wire.specs.Replies.{IsPartOf, Part, RowsFit, items_over, part_bytes, rows_bytes, root_reply_bytes, part_in_bytes}
+use Rattle.merkle_wire.specs.Replies.{IsPartOf, Part, RowsFit, items_over, part_bytes, rows_bytes}
 use Rattle.merkle_wire.specs.declared.gaps.OwnedGap.{OwnedGap}
 use Rattle.merkle_wire.specs.declared.nodes.ToldRows.{ToldRows}
 use Rattle.merkle_wire.specs.declared.outlines.Telling.{Telling}
-use Rattle.std.specs.List.{AllByRecursion}
-use Rattle.merkle_bytes.specs.Reading.{Reads}
-use Rattle.merkle_bytes.specs.declared.reader.Reader.{Reader}
-use Rattle.merkle_wire.specs.Coming.{AscendIn, OutlinesCome}
-use Rattle.merkle_wire.specs.Gaps.{owned_gap}
-use Rattle.merkle_wire.specs.Taking.{AreBehind, IsBehind, AddsRows, AreTaken, IsRootTaken, ValuesCome, PartsCome, AsksAgain}
 use Rattle.merkle_wire.specs.declared.coming.OutlineRead.{OutlineRead}
 use Rattle.merkle_wire.specs.declared.coming.OutlineRead.TheVariants.{Rows, Digests, Page}
-use Rattle.merkle_wire.specs.declared.message.Kind.TheVariants.{Outlines as outlines_kind, Nodes as nodes_kind}
-use Rattle.merkle_wire.specs.declared.question.Question.{Question}
-use Rattle.merkle_wire.specs.declared.question.Question.TheVariants as ask
-use Rattle.merkle_wire.specs.declared.replies.Reply.{Reply}
-use Rattle.merkle_wire.specs.declared.replies.Reply.TheVariants as came
 use Rattle.merkle_wire.specs.declared.wanted.Wanted.{Wanted}
-use Rattle.merkle_replica.specs.Laws.{Laws}
 use Rattle.merkle_tree_theory.specs.Gap.{Gap}
 use Rattle.merkle_wire.specs.Underway.{Found}
 
@@ -78,41 +66,6 @@ as_told (Rows rows bytes) = rows_told rows.items
 as_told (Digests nodes) = digests_told (nodes_read nodes.items)
 as_told (Page page) = page_told page.digest (below_keys page.below.items) (digests_beside page.below.items page.last)
 
--- so it is for several gaps
-abbrev pub outlines_read : {K V : Type 0} → List (OwnedGap K × OutlineRead K V) → List (OwnedGap K × Outline K V)
-outlines_read = map (λ t. (t.0, as_told t.1))
-
-module _ {K V : Type 0} (cmp : K → K → Ordering) (encoding : K → List ℕ) (values : V → List ℕ) where
-  -- a part of the rows in a gap was read, and its rows added; the gap after it is added where there are more
-  abbrev pub ReadsPart : OwnedGap K → Reader → Reader → List (K × V) → List (K × V) → List (OwnedGap K) → List (OwnedGap K) → Type 0
-  ReadsPart gap old new before after left left' = (part : Part K V) × (behind : List (OwnedGap K))
-      × Reads old (part_bytes encoding values (bound_key encoding [] gap.after) part) new × AscendIn cmp (owned_gap gap) (map (λ r. r.0) part.rows)
-      × IsBehind cmp (owned_gap gap) part behind × (left' ≡ left ++ behind) × (after ≡ before ++ part.rows)
-
-  -- so were parts of the first gaps, this many of them
-  abbrev pub ReadsPartsOf : List (OwnedGap K) → Reader → Reader → List (K × V) → List (K × V) → List (OwnedGap K) → List (OwnedGap K) → ℕ → Type 0
-  ReadsPartsOf gaps old new before after left left' count = (count ≤ length gaps) × ((told : List (OwnedGap K × Part K V)) × (behind : List (OwnedGap K)) × (map (λ t. t.0) told ≡ take count gaps)
-      × Reads old (flat_map (part_in_bytes encoding values) told) new × AllByRecursion (λ t. AscendIn cmp (owned_gap t.0) (map (λ r. r.0) t.1.rows)) told
-      × AreBehind cmp told behind × (left' ≡ left ++ behind) × (after ≡ before ++ flat_map (λ t. t.1.rows) told))
-
-  -- a reply to a question was read, after which this question is to be asked again, or none
-  abbrev pub IsReplyRead : ℕ → Question K → List ℕ → Reply K V → Option (Question K) → Type 0
-  IsReplyRead n (ask.Root settings) reply read again = (count : ℕ) × (digest : Option (List ℕ)) × (read ≡ came.Root count digest) × (reply ≡ root_reply_bytes count digest) × (again ≡ None)
-  IsReplyRead n (ask.Outlines most gaps) reply read again = (all : Vec (OwnedGap K × OutlineRead K V)) × (left : List (OwnedGap K)) × (read ≡ came.Outlines all)
-      × OutlinesCome cmp encoding values n outlines_kind (λ told. told ≡ outlines_read all.items) gaps.items reply left × AsksAgain (ask.Outlines most) left again
-  IsReplyRead n (ask.Nodes most gaps) reply read again = (all : Vec (OwnedGap K × OutlineRead K V)) × (left : List (OwnedGap K)) × (read ≡ came.Outlines all)
-      × OutlinesCome cmp encoding values n nodes_kind (λ told. told ≡ outlines_read all.items) gaps.items reply left × AsksAgain (ask.Nodes most) left again
-  IsReplyRead n (ask.RowsAt keys) reply read again = (all : Vec (K × V)) × (left : List (Wanted K)) × (read ≡ came.Rows all)
-      × ValuesCome values (λ rows. all.items ≡ rows) keys.items reply left × AsksAgain ask.RowsAt left again
-  IsReplyRead n (ask.RowsIn gaps) reply read again = (all : Vec (K × V)) × (left : List (OwnedGap K)) × (read ≡ came.Rows all)
-      × PartsCome cmp encoding values (λ rows. all.items ≡ rows) gaps.items reply left × AsksAgain ask.RowsIn left again
-
 -- gaps of pages are added, of which P holds
 abbrev pub AddsGaps : {K V : Type 0} → (List (Gap K) → Type 0) → Found K V → Found K V → Type 0
 AddsGaps P before after = (gaps : List _) × P gaps × (after ≡ record before { below = before.below ++ gaps })
-
--- what a reply told is taken: what the side doesn't have is added to what was found
-abbrev pub IsReplyTaken : {K V H : Type 0} → Laws K V H → Side K V H → Reply K V → Found K V → Found K V → Type 0
-IsReplyTaken laws local (came.Root count digest) before after = IsRootTaken laws local digest before after
-IsReplyTaken laws local (came.Outlines told) before after = AreTaken laws local (outlines_read told.items) before after
-IsReplyTaken laws local (came.Rows rows) before after = AddsRows laws local rows.items before after

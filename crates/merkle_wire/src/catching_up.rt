@@ -18,10 +18,9 @@ use crate::answering::own_reply;
 use crate::kept_tree::{KeptTree, first_key, first_row_key};
 use crate::limits::Limits;
 use crate::question::{Question, encode_question};
-use crate::replies::read_reply;
+use crate::replies::take_reply;
 use crate::session_error::{SessionError, TakeError};
 use crate::settings::{Settings, settings_of, settings_with};
-use crate::taking::take_reply;
 use crate::within::rows_ascend;
 use crate::work::Work;
 use merkle_bytes::Decode;
@@ -277,12 +276,8 @@ impl<K: Key + Decode, V: Join + Decode> CatchingUp<K, V> {
             left,
         } = self;
         let left = left.after(reply.len())?;
-        let (came, again) = read_reply(alloc, N, asked, reply)?;
         let mut work = work;
-        match take_reply(tree, count, came, &mut work) {
-            Ok(()) => {}
-            Err(error) => return Err(TakeError::Tree(error)),
-        }
+        let again = take_reply(alloc, tree, count, asked, reply, &mut work)?;
         left.check_rows(work.row_count())?;
         match again {
             Some(question) => Ok(ask(alloc, question, work, rounds, left)?),

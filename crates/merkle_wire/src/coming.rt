@@ -8,9 +8,10 @@ ghost use Rattle.merkle_wire.specs.Coming.{AscendIn, IsPageDigest, LiesIn};
 ghost use Rattle.merkle_wire.specs.Faults.{IsRefusedFor};
 ghost use Rattle.merkle_wire.specs.Gaps.{owned_gap};
 ghost use Rattle.merkle_wire.specs.Outlines.{keys_among, outline_bytes, pages_bytes, nodes_bytes, page_bytes};
-ghost use Rattle.merkle_wire.specs.Steps.{ReadsPart, below_keys, digests_beside, nodes_read, as_told};
+ghost use Rattle.merkle_wire.specs.Steps.{below_keys, digests_beside, nodes_read, as_told};
+ghost use Rattle.merkle_wire.specs.Replies.{part_in_bytes};
 ghost use Rattle.merkle_wire.specs.Fit.{AreNodesIn, NoPage, NoOutline, NoRows, NoPart};
-ghost use Rattle.merkle_wire.specs.Taking.{value_row, IsBehind};
+ghost use Rattle.merkle_wire.specs.Taking.{IsBehind};
 
 use crate::gaps::OwnedGap;
 use crate::pages::decode_page;
@@ -20,7 +21,6 @@ use crate::within::{keys_lie_in, rows_lie_in};
 use merkle_bytes::{Decode, Expected, KeyRun, Reader, decode_run};
 use merkle_digest::{Key, PageDigest};
 use merkle_replica::Join;
-use std::alloc::AllocError;
 
 /// A key that came, and the digest of its value.
 pub(crate) type NodeRead<'a, K> = (Wanted<K>, &'a [u8]);
@@ -192,55 +192,35 @@ fn read_pages<K: Key + Drop>(
     Ok((below, last))
 }
 
-/// Reads the value at a key that was asked for, and adds the row, where the peer has one.
-pub(crate) fn read_value<K: Key + Decode, V: Join + Decode>(
-    reader: &mut Reader<'_>,
-    wanted: Wanted<K>,
-    rows: &mut Vec<(K, V)>,
-) -> Result<(), SessionError>
-    ensures read { OnOk result ((value : Option V) × Reads reader.old (option_bytes V.encoding value) reader.new
-        × (rows.new.items ≡ rows.old.items ++ value_row (wanted, value))) }
+/// Reads the value at a key that was asked for, or that the peer has none.
+pub(crate) fn read_value<V: Decode>(reader: &mut Reader<'_>) -> Result<Option<V>, SessionError>
+    ensures read { IfOk result (λ value. Reads reader.old (option_bytes V.encoding value) reader.new) }
     ensures refused { IfErr result (IsRefusedFor (BeginsWithNo (option_bytes V.encoding) (IsOption V.is_value) reader.old.left.now)) }
 {
-    let Some(value) = Option::<V>::decode(reader)? else {
-        return Ok(());
-    };
-    rows.push((wanted.key, value))?;
-    Ok(())
+    let value = Option::<V>::decode(reader)?;
+    Ok(value)
 }
 
-/// Reads the rows in a gap, or the first of them, and adds them, and the gap after these, where there are more.
+/// Reads the rows in a gap, or the first of them, and whether they are all. Where there are more, it adds the gap after them to what is left.
 pub(crate) fn read_part<K: Key + Decode, V: Join + Decode>(
     reader: &mut Reader<'_>,
     gap: &OwnedGap<K>,
-    rows: &mut Vec<(K, V)>,
     left: &mut Vec<OwnedGap<K>>,
-) -> Result<(), SessionError>
-    ensures read { OnOk result (ReadsPart K.cmp K.encoding V.encoding gap.now reader.old reader.new rows.old.items rows.new.items
-        left.old.items left.new.items) }
+) -> Result<(Vec<(K, V)>, bool), SessionError>
+    ensures read { IfOk result (λ p. Reads reader.old (part_in_bytes K.encoding V.encoding (gap.now, record { rows = p.0.items; whole = p.1 }))
+        reader.new) }
+    ensures lie { IfOk result (λ p. AscendIn K.cmp (owned_gap gap.now) (map (λ r. r.0) p.0.items)) }
+    ensures behind { IfOk result (λ p. (own : _) × IsBehind K.cmp (owned_gap gap.now) (record { rows = p.0.items; whole = p.1 }) own
+        × (left.new.items ≡ left.old.items ++ own)) }
     ensures refused { IfErr result (IsRefusedFor (NoPart K.cmp K.is_value V.is_value K.encoding V.encoding gap.now reader.old.left.now)) }
 {
     let mut run = KeyRun::behind(reader.alloc(), gap.after.as_ref())?;
-    let part = read_rows(reader, gap, &mut run)?;
+    let rows = read_rows(reader, gap, &mut run)?;
     if reader.flag()? {
-        add_rows(rows, part)?;
-        return Ok(());
+        return Ok((rows, true));
     }
-    add_behind(&part, gap, left)?;
-    add_rows(rows, part)?;
-    Ok(())
-}
-
-/// Adds rows after others. Where there are no others, nothing is copied.
-fn add_rows<K: Drop, V: Drop>(rows: &mut Vec<(K, V)>, more: Vec<(K, V)>) -> Result<(), AllocError>
-    ensures { OnOk result (rows.new.items ≡ rows.old.items ++ more.items) }
-{
-    if rows.is_empty() {
-        *rows = more;
-        return Ok(());
-    }
-    let mut more = more;
-    rows.append(&mut more)
+    add_behind(&rows, gap, left)?;
+    Ok((rows, false))
 }
 
 /// Adds what is left of a gap after the last of the rows.

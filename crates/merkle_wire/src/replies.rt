@@ -1,26 +1,27 @@
-//! Replies that came, read: each answers the first of what was asked for, or all of it.
-ghost use Rattle.std.specs.Prelude.{◌≡◌, ◌≢◌, ◌++◌, ℕ, List, [], length, IfOk, IfErr, OnOk, Option, ◌<◌, ◌^◌};
+//! Replies that came: each answers the first of what was asked for, or all of it, and is taken entry by entry, as it is read.
+ghost use Rattle.std.specs.Prelude.{◌≡◌, ◌≢◌, ◌++◌, ◌∷◌, ℕ, [], List, IfOk, IfErr, OnOk, Option, ◌<◌, ◌^◌};
 ghost use Rattle.merkle_bytes.specs.Reading.{Reads};
-ghost use Rattle.merkle_wire.specs.Faults.{IsRefusedFor};
-ghost use Rattle.merkle_wire.specs.Fit.{IsFit, Says, NoParts, SaysOutlines};
+ghost use Rattle.merkle_wire.specs.Coming.{IsPageDigest};
+ghost use Rattle.merkle_wire.specs.ByDigests.{TakesOutlines, TakesReply};
+ghost use Rattle.merkle_wire.specs.Faults.{IsNotTaken, IsRefusedFor};
+ghost use Rattle.merkle_wire.specs.Fit.{IsFit, SaysOutlines};
 ghost use Rattle.merkle_wire.specs.Messages.{front};
-ghost use Rattle.merkle_wire.specs.Steps.{IsReplyRead, ReadsPartsOf, outlines_read};
-ghost use Rattle.merkle_wire.specs.Replies.{root_reply_bytes, value_at_bytes};
-ghost use Rattle.merkle_wire.specs.declared.message.Kind.TheVariants.{RowsAt as rows_at_kind};
-ghost use Rattle.merkle_bytes.specs.Options.{IsOption};
-ghost use Rattle.merkle_wire.specs.Taking.{ValuesCome, PartsCome};
-ghost use Rattle.merkle_wire.specs.Coming.{OutlinesCome, IsPageDigest};
+ghost use Rattle.merkle_wire.specs.Replies.{root_reply_bytes};
+ghost use Rattle.merkle_wire.specs.declared.session_error.SessionError.TheVariants.{Memory};
 
-use crate::coming::{OutlineRead, read_outline, read_part, read_value};
+use crate::coming::{read_outline, read_part, read_value};
 use crate::gaps::OwnedGap;
+use crate::kept_tree::KeptTree;
 use crate::message::{Kind, decode_kind};
 use crate::pages::decode_page;
 use crate::question::Question;
-use crate::session_error::SessionError;
+use crate::session_error::{SessionError, TakeError};
+use crate::taking::{has_few, take_outline, take_root, take_rows, take_value};
 use crate::wanted::Wanted;
+use crate::work::Work;
 use merkle_bytes::{Decode, Reader};
 use merkle_digest::{Key, PageDigest};
-use merkle_replica::Join;
+use merkle_replica::{Join, RowHasher};
 use std::alloc::Global;
 
 /// Reads the front of a reply of this kind.
@@ -52,20 +53,6 @@ fn reader_of<'a>(alloc: Global, reply: &'a [u8], kind: Kind) -> Result<Reader<'a
     Ok(reader)
 }
 
-/// A gap, and what came of the page over it.
-pub(crate) type OutlineOver<'a, K, V> = (OwnedGap<K>, OutlineRead<'a, K, V>);
-
-/// What a reply tells.
-#[derive(Drop)]
-pub(crate) enum Reply<'a, K, V> {
-    /// How many rows the peer has, and the digest of its root page, where it has a row.
-    Root(u64, Option<PageDigest>),
-    /// What came of the pages over gaps.
-    Outlines(Vec<OutlineOver<'a, K, V>>),
-    /// The rows at keys or in gaps.
-    Rows(Vec<(K, V)>),
-}
-
 /// How many rows the peer has, and the digest of its root page, or none.
 fn decode_root(alloc: Global, reply: &[u8]) -> Result<(u64, Option<PageDigest>), SessionError>
     ensures read { IfOk result (λ root. reply.now ≡ root_reply_bytes root.0 root.1) }
@@ -80,152 +67,189 @@ fn decode_root(alloc: Global, reply: &[u8]) -> Result<(u64, Option<PageDigest>),
     Ok((rows, digest))
 }
 
-/// Reads what came of the pages over the first of the gaps, or over all of them, and returns it with the other gaps.
-fn read_outlines<'a, K: Key + Decode, V: Join + Decode>(
+/// Keeps what nothing came for: it is to be asked for again.
+fn keep<X: Drop>(left: &mut Vec<X>, asked: X) -> Result<(), SessionError>
+    ensures kept { OnOk result (left.new.items ≡ left.old.items ++ asked ∷ []) }
+    ensures memory { IfErr result (λ error. error ≡ Memory) }
+{
+    left.push(asked)?;
+    Ok(())
+}
+
+/// Expects that nothing is left of a reply.
+fn expect_end(reader: &Reader<'_>) -> Result<(), SessionError>
+    ensures ended { OnOk result (reader.now.left.now ≡ []) }
+    ensures refused { IfErr result (IsRefusedFor (reader.now.left.now ≢ [])) }
+{
+    reader.end()?;
+    Ok(())
+}
+
+/// Takes what came of the pages over the first of the gaps, or over all of them, and returns the other gaps.
+fn take_outlines<
+    K: Key + Decode,
+    V: Join + Decode,
+    H: RowHasher<N, K, V>,
+    T: KeptTree<N, K, V, H>,
+    const N: usize,
+>(
     alloc: Global,
-    digest_bytes: usize,
+    tree: &mut T,
     kind: Kind,
     with_pages: bool,
     gaps: Vec<OwnedGap<K>>,
-    reply: &'a [u8],
-) -> Result<(Vec<OutlineOver<'a, K, V>>, Vec<OwnedGap<K>>), SessionError>
-    ensures read { IfOk result (λ came. OutlinesCome K.cmp K.encoding V.encoding digest_bytes kind (λ told. told ≡ outlines_read came.0.items)
-        gaps.items reply.now came.1.items) }
-    ensures refused { IfErr result (IsRefusedFor (¬ SaysOutlines K.cmp K.is_value V.is_value K.encoding V.encoding digest_bytes kind with_pages
+    reply: &[u8],
+    work: &mut Work<K, V>,
+) -> Result<Vec<OwnedGap<K>>, TakeError<T::Error>>
+    ensures taken { T.is_sound tree.new → IfOk result (TakesOutlines H.laws (T.kept tree.old).digests N K.encoding V.encoding kind
+        gaps.items reply.now work.old work.new) }
+    ensures refused { IfErr result (IsNotTaken (¬ SaysOutlines K.cmp K.is_value V.is_value K.encoding V.encoding N kind with_pages
         gaps.items reply.now)) }
+    ensures kept { T.is_sound tree.new → T.kept tree.new ≡ T.kept tree.old }
+    ensures steady { T.is_sound tree.new → T.is_sound tree.old }
 {
     let mut reader = reader_of(alloc, reply, kind)?;
-    let mut told = Vec::with_capacity(alloc, gaps.len())?;
     let mut left = Vec::new(alloc);
     'gaps: for gap in gaps {
         if reader.left().is_empty() {
-            left.push(gap)?;
+            keep(&mut left, gap)?;
         } else {
-            let outline = read_outline(&mut reader, digest_bytes, with_pages, &gap)?;
-            told.push((gap, outline))?;
+            let outline = read_outline(&mut reader, N, with_pages, &gap)?;
+            match take_outline(tree, &gap, outline, work) {
+                Ok(()) => {}
+                Err(error) => return Err(TakeError::Tree(error)),
+            }
         }
     }
-    reader.end()?;
-    Ok((told, left))
+    expect_end(&reader)?;
+    Ok(left)
 }
 
-/// Reads the values at the first of the keys, or at all of them, and returns the rows that the peer has with the other keys.
-fn read_values<K: Key + Decode, V: Join + Decode>(
+/// Takes the values at the first of the keys, or at all of them. The other keys are to be asked for again.
+fn take_values<
+    K: Key + Decode,
+    V: Join + Decode,
+    H: RowHasher<N, K, V>,
+    T: KeptTree<N, K, V, H>,
+    const N: usize,
+>(
     alloc: Global,
+    tree: &mut T,
     keys: Vec<Wanted<K>>,
     reply: &[u8],
-) -> Result<(Vec<(K, V)>, Vec<Wanted<K>>), SessionError>
-    ensures read { IfOk result (λ came. ValuesCome V.encoding (λ rows. came.0.items ≡ rows) keys.items reply.now came.1.items) }
-    ensures refused { IfErr result (IsRefusedFor (¬ Says rows_at_kind (value_at_bytes V.encoding) (λ w. IsOption V.is_value) keys.items reply.now)) }
+    work: &mut Work<K, V>,
+) -> Result<Option<Question<K>>, TakeError<T::Error>>
+    ensures taken { T.is_sound tree.new → IfOk result (TakesReply H.laws (T.kept tree.old).digests N K.encoding V.encoding (Question.RowsAt keys)
+        reply.now work.old work.new) }
+    ensures refused { IfErr result (IsNotTaken (¬ IsFit K.cmp K.is_value V.is_value K.encoding V.encoding N (Question.RowsAt keys) reply.now)) }
+    ensures kept { T.is_sound tree.new → T.kept tree.new ≡ T.kept tree.old }
+    ensures steady { T.is_sound tree.new → T.is_sound tree.old }
 {
     let mut reader = reader_of(alloc, reply, Kind::RowsAt)?;
-    let mut rows = Vec::with_capacity(alloc, keys.len())?;
     let mut left = Vec::new(alloc);
     'keys: for wanted in keys {
         if reader.left().is_empty() {
-            left.push(wanted)?;
+            keep(&mut left, wanted)?;
         } else {
-            read_value(&mut reader, wanted, &mut rows)?;
+            let value = read_value(&mut reader)?;
+            match take_value(tree, wanted, value, work) {
+                Ok(()) => {}
+                Err(error) => return Err(TakeError::Tree(error)),
+            }
         }
     }
-    reader.end()?;
-    Ok((rows, left))
+    expect_end(&reader)?;
+    if left.is_empty() {
+        return Ok(None);
+    }
+    Ok(Some(Question::RowsAt(left)))
 }
 
-/// Reads the rows in the first of the gaps, or in all of them, and returns them with the other gaps, and what is left of a gap of which not all
-/// rows came.
-fn read_parts<K: Key + Decode, V: Join + Decode>(
+/// Takes the rows in the first of the gaps, or in all of them. What is left of gaps of which not all rows came, and the other gaps, are to be asked
+/// for again.
+fn take_parts<
+    K: Key + Decode,
+    V: Join + Decode,
+    H: RowHasher<N, K, V>,
+    T: KeptTree<N, K, V, H>,
+    const N: usize,
+>(
     alloc: Global,
+    tree: &mut T,
     gaps: Vec<OwnedGap<K>>,
     reply: &[u8],
-) -> Result<(Vec<(K, V)>, Vec<OwnedGap<K>>), SessionError>
-    ensures read { IfOk result (λ came. PartsCome K.cmp K.encoding V.encoding (λ rows. came.0.items ≡ rows) gaps.items reply.now came.1.items) }
-    ensures refused { IfErr result (IsRefusedFor (¬ IsFit K.cmp K.is_value V.is_value K.encoding V.encoding 0 (Question.RowsIn gaps) reply.now)) }
+    work: &mut Work<K, V>,
+) -> Result<Option<Question<K>>, TakeError<T::Error>>
+    ensures taken { T.is_sound tree.new → IfOk result (TakesReply H.laws (T.kept tree.old).digests N K.encoding V.encoding (Question.RowsIn gaps)
+        reply.now work.old work.new) }
+    ensures refused { IfErr result (IsNotTaken (¬ IsFit K.cmp K.is_value V.is_value K.encoding V.encoding N (Question.RowsIn gaps) reply.now)) }
+    ensures kept { T.is_sound tree.new → T.kept tree.new ≡ T.kept tree.old }
+    ensures steady { T.is_sound tree.new → T.is_sound tree.old }
 {
-    let mut gaps = gaps;
-    let mut rows = Vec::new(alloc);
-    let mut left = Vec::new(alloc);
     let mut reader = reader_of(alloc, reply, Kind::RowsIn)?;
-    let count = read_first_parts(&mut reader, &gaps, &mut rows, &mut left)?;
-    reader.end()?;
-    let mut rest = gaps.split_off(count)?;
-    left.append(&mut rest)?;
-    Ok((rows, left))
-}
-
-/// Reads the rows in the first of the gaps, as far as bytes came, and adds them, and what is left of a gap of which not all rows came. Returns how
-/// many gaps these are.
-fn read_first_parts<K: Key + Decode, V: Join + Decode>(
-    reader: &mut Reader<'_>,
-    gaps: &[OwnedGap<K>],
-    rows: &mut Vec<(K, V)>,
-    left: &mut Vec<OwnedGap<K>>,
-) -> Result<usize, SessionError>
-    ensures read { IfOk result (ReadsPartsOf K.cmp K.encoding V.encoding gaps.now reader.old reader.new
-        rows.old.items rows.new.items left.old.items left.new.items) }
-    ensures all { IfOk result (λ count. reader.new.left.now ≢ [] → count ≡ length gaps.now) }
-    ensures refused { IfErr result (IsRefusedFor (NoParts K.cmp K.is_value V.is_value K.encoding V.encoding gaps.now reader.old.left.now)) }
-{
-    let mut count = 0;
+    let mut left = Vec::new(alloc);
     'gaps: for gap in gaps {
         if reader.left().is_empty() {
-            return Ok(count);
+            keep(&mut left, gap)?;
+        } else {
+            let part = read_part(&mut reader, &gap, &mut left)?;
+            match take_rows(tree, part.0, work) {
+                Ok(()) => {}
+                Err(error) => return Err(TakeError::Tree(error)),
+            }
         }
-        read_part(reader, gap, rows, left)?;
-        count += 1;
     }
-    Ok(count)
+    expect_end(&reader)?;
+    if left.is_empty() {
+        return Ok(None);
+    }
+    Ok(Some(Question::RowsIn(left)))
 }
 
-/// Reads a reply to a question, and returns it with what of the question is to be asked again. Digests of values have this many bytes.
-pub(crate) fn read_reply<'a, K: Key + Decode, V: Join + Decode>(
+/// Takes a reply to a question, entry by entry, and returns what of the question is to be asked again. `count` is about how many rows this side has.
+pub(crate) fn take_reply<
+    K: Key + Decode,
+    V: Join + Decode,
+    H: RowHasher<N, K, V>,
+    T: KeptTree<N, K, V, H>,
+    const N: usize,
+>(
     alloc: Global,
-    digest_bytes: usize,
+    tree: &mut T,
+    count: u64,
     asked: Question<K>,
-    reply: &'a [u8],
-) -> Result<(Reply<'a, K, V>, Option<Question<K>>), SessionError>
-    ensures read { IfOk result (λ came. IsReplyRead K.cmp K.encoding V.encoding digest_bytes asked reply.now came.0 came.1) }
-    ensures refused { IfErr result (IsRefusedFor (¬ IsFit K.cmp K.is_value V.is_value K.encoding V.encoding digest_bytes asked reply.now)) }
+    reply: &[u8],
+    work: &mut Work<K, V>,
+) -> Result<Option<Question<K>>, TakeError<T::Error>>
+    ensures taken { T.is_sound tree.new → IfOk result (TakesReply H.laws (T.kept tree.old).digests N K.encoding V.encoding asked
+        reply.now work.old work.new) }
+    ensures refused { IfErr result (IsNotTaken (¬ IsFit K.cmp K.is_value V.is_value K.encoding V.encoding N asked reply.now)) }
+    ensures kept { T.is_sound tree.new → T.kept tree.new ≡ T.kept tree.old }
+    ensures steady { T.is_sound tree.new → T.is_sound tree.old }
 {
     match asked {
         Question::Root(_) => {
             let (rows, digest) = decode_root(alloc, reply)?;
-            Ok((Reply::Root(rows, digest), None))
+            match take_root(tree, has_few(count, rows), &digest, work) {
+                Ok(()) => Ok(None),
+                Err(error) => Err(TakeError::Tree(error)),
+            }
         }
         Question::Outlines(most, gaps) => {
-            let (told, left) = read_outlines(
-                alloc,
-                digest_bytes,
-                Kind::Outlines,
-                true,
-                gaps,
-                reply,
-            )?;
+            let left = take_outlines(alloc, tree, Kind::Outlines, true, gaps, reply, work)?;
             if left.is_empty() {
-                return Ok((Reply::Outlines(told), None));
+                return Ok(None);
             }
-            Ok((Reply::Outlines(told), Some(Question::Outlines(most, left))))
+            Ok(Some(Question::Outlines(most, left)))
         }
         Question::Nodes(most, gaps) => {
-            let (told, left) = read_outlines(alloc, digest_bytes, Kind::Nodes, false, gaps, reply)?;
+            let left = take_outlines(alloc, tree, Kind::Nodes, false, gaps, reply, work)?;
             if left.is_empty() {
-                return Ok((Reply::Outlines(told), None));
+                return Ok(None);
             }
-            Ok((Reply::Outlines(told), Some(Question::Nodes(most, left))))
+            Ok(Some(Question::Nodes(most, left)))
         }
-        Question::RowsAt(keys) => {
-            let (rows, left) = read_values(alloc, keys, reply)?;
-            if left.is_empty() {
-                return Ok((Reply::Rows(rows), None));
-            }
-            Ok((Reply::Rows(rows), Some(Question::RowsAt(left))))
-        }
-        Question::RowsIn(gaps) => {
-            let (rows, left) = read_parts(alloc, gaps, reply)?;
-            if left.is_empty() {
-                return Ok((Reply::Rows(rows), None));
-            }
-            Ok((Reply::Rows(rows), Some(Question::RowsIn(left))))
-        }
+        Question::RowsAt(keys) => take_values(alloc, tree, keys, reply, work),
+        Question::RowsIn(gaps) => take_parts(alloc, tree, gaps, reply, work),
     }
 }

@@ -1,15 +1,14 @@
 //! What came, compared with what this side has.
-ghost use Rattle.std.specs.Prelude.{◌≡◌, OnOk};
+ghost use Rattle.std.specs.Prelude.{◌≡◌, ◌∷◌, [], OnOk};
 ghost use Rattle.merkle_wire.specs.Gaps.{between, owned_gap};
 ghost use Rattle.merkle_wire.specs.ItsRows.{ForRowsOf};
-ghost use Rattle.merkle_wire.specs.ByDigests.{AddsNewGap, AddsNewGapsBeside, TakesPage};
-ghost use Rattle.merkle_wire.specs.Steps.{nodes_read, as_told, outlines_read, IsReplyTaken};
-ghost use Rattle.merkle_wire.specs.Taking.{AddsRows, AreTaken, IsRootTaken, AddsKeys};
+ghost use Rattle.merkle_wire.specs.ByDigests.{AddsNewGapsBeside, TakesPage};
+ghost use Rattle.merkle_wire.specs.Steps.{nodes_read, as_told};
+ghost use Rattle.merkle_wire.specs.Taking.{AddsRows, IsRootTaken, AddsKeys, value_row};
 
 use crate::coming::{NodeRead, OutlineRead, PageRead};
 use crate::gaps::OwnedGap;
 use crate::kept_tree::KeptTree;
-use crate::replies::{OutlineOver, Reply};
 use crate::sifting::{has_digest, has_nodes};
 use crate::wanted::Wanted;
 use crate::work::Work;
@@ -20,42 +19,13 @@ use merkle_search_tree::Gap;
 /// The part of the peer's rows below which a side asks for all of them.
 const FEWEST: u64 = 4;
 
-/// Takes what a reply told. `count` is about how many rows this side has.
-pub(crate) fn take_reply<
-    K: Key + Drop,
-    V: Join + Drop,
-    H: RowHasher<N, K, V>,
-    T: KeptTree<N, K, V, H>,
-    const N: usize,
->(tree: &mut T, count: u64, came: Reply<'_, K, V>, work: &mut Work<K, V>) -> Result<(), T::Error>
-    ensures taken { T.is_sound tree.new → OnOk result (ForRowsOf H.laws (T.kept tree.old).digests
-        (λ local. IsReplyTaken H.laws local came.entry work.old work.new)) }
-    ensures kept { T.is_sound tree.new → T.kept tree.new ≡ T.kept tree.old }
-    ensures steady { T.is_sound tree.new → T.is_sound tree.old }
-{
-    match came {
-        Reply::Root(rows, digest) => {
-            take_root(tree, has_few(count, rows), &digest, work)?;
-            Ok(())
-        }
-        Reply::Outlines(told) => {
-            take_outlines(tree, told, work)?;
-            Ok(())
-        }
-        Reply::Rows(rows) => {
-            take_all(tree, rows, work)?;
-            Ok(())
-        }
-    }
-}
-
 /// Whether a side with this many rows has few of those of a peer with this many: it asks for all then.
-fn has_few(own: u64, count: u64) -> bool {
+pub(crate) fn has_few(own: u64, count: u64) -> bool {
     own < count / FEWEST
 }
 
 /// Takes the digest of the peer's root page, where it has a row. With `has_few` all rows are asked for, where this side hasn't the page.
-fn take_root<
+pub(crate) fn take_root<
     K: Key + Drop,
     V: Join + Drop,
     H: RowHasher<N, K, V>,
@@ -86,28 +56,8 @@ fn take_root<
     Ok(())
 }
 
-/// Takes what came of the pages over gaps.
-fn take_outlines<
-    K: Key + Drop,
-    V: Join + Drop,
-    H: RowHasher<N, K, V>,
-    T: KeptTree<N, K, V, H>,
-    const N: usize,
->(tree: &mut T, told: Vec<OutlineOver<'_, K, V>>, work: &mut Work<K, V>) -> Result<(), T::Error>
-    ensures taken { T.is_sound tree.new → OnOk result (ForRowsOf H.laws (T.kept tree.old).digests
-        (λ s. AreTaken H.laws s (outlines_read told.entry.items) work.old work.new)) }
-    ensures kept { T.is_sound tree.new → T.kept tree.new ≡ T.kept tree.old }
-    ensures steady { T.is_sound tree.new → T.is_sound tree.old }
-{
-    'told: for outline in told {
-        let (gap, came) = outline;
-        take_outline(tree, &gap, came, work)?;
-    }
-    Ok(())
-}
-
 /// Takes what came of the page over a gap: its outline, or its nodes alone.
-fn take_outline<
+pub(crate) fn take_outline<
     K: Key + Drop,
     V: Join + Drop,
     H: RowHasher<N, K, V>,
@@ -127,7 +77,7 @@ fn take_outline<
     match came {
         OutlineRead::Rows(rows, bytes) => {
             work.note_bytes(bytes);
-            take_all(tree, rows, work)?;
+            take_rows(tree, rows, work)?;
             Ok(())
         }
         OutlineRead::Digests(nodes) => {
@@ -141,8 +91,27 @@ fn take_outline<
     }
 }
 
+/// Takes the row that is told by a key with its value, where there is one, unless this side has it.
+pub(crate) fn take_value<
+    K: Key + Drop,
+    V: Join + Drop,
+    H: RowHasher<N, K, V>,
+    T: KeptTree<N, K, V, H>,
+    const N: usize,
+>(tree: &mut T, wanted: Wanted<K>, value: Option<V>, work: &mut Work<K, V>) -> Result<(), T::Error>
+    ensures taken { T.is_sound tree.new → OnOk result (ForRowsOf H.laws (T.kept tree.old).digests
+        (λ local. AddsRows H.laws local (value_row (wanted, value)) work.old work.new)) }
+    ensures kept { T.is_sound tree.new → T.kept tree.new ≡ T.kept tree.old }
+    ensures steady { T.is_sound tree.new → T.is_sound tree.old }
+{
+    match value {
+        None => Ok(()),
+        Some(value) => take_row(tree, (wanted.key, value), work),
+    }
+}
+
 /// Takes those of the rows that this side doesn't have.
-fn take_all<
+pub(crate) fn take_rows<
     K: Key + Drop,
     V: Join + Drop,
     H: RowHasher<N, K, V>,
@@ -155,10 +124,27 @@ fn take_all<
     ensures steady { T.is_sound tree.new → T.is_sound tree.old }
 {
     'rows: for row in rows {
-        let digest = tree.digest_of(&row.1);
-        let is_there = has_digest(tree, &row.0, digest.as_bytes().as_slice())?;
-        work.take_row(row, is_there)?;
+        take_row(tree, row, work)?;
     }
+    Ok(())
+}
+
+/// Takes a row, unless this side has it.
+fn take_row<
+    K: Key + Drop,
+    V: Join + Drop,
+    H: RowHasher<N, K, V>,
+    T: KeptTree<N, K, V, H>,
+    const N: usize,
+>(tree: &mut T, row: (K, V), work: &mut Work<K, V>) -> Result<(), T::Error>
+    ensures taken { T.is_sound tree.new → OnOk result (ForRowsOf H.laws (T.kept tree.old).digests
+        (λ local. AddsRows H.laws local (row ∷ []) work.old work.new)) }
+    ensures kept { T.is_sound tree.new → T.kept tree.new ≡ T.kept tree.old }
+    ensures steady { T.is_sound tree.new → T.is_sound tree.old }
+{
+    let digest = tree.digest_of(&row.1);
+    let is_there = has_digest(tree, &row.0, digest.as_bytes().as_slice())?;
+    work.take_row(row, is_there)?;
     Ok(())
 }
 
@@ -253,8 +239,8 @@ fn take_below<
     digest: &Option<PageDigest>,
     work: &mut Work<K, V>,
 ) -> Result<(), T::Error>
-    ensures added { T.is_sound tree.new → OnOk result (AddsNewGap H.laws (T.kept tree.old).digests (between after.entry before.entry) digest.now
-        work.old work.new) }
+    ensures added { T.is_sound tree.new → OnOk result (AddsNewGapsBeside H.laws (T.kept tree.old).digests (between after.entry before.entry)
+        [] digest.now work.old work.new) }
     ensures kept { T.is_sound tree.new → T.kept tree.new ≡ T.kept tree.old }
     ensures steady { T.is_sound tree.new → T.is_sound tree.old }
 {

@@ -1,11 +1,11 @@
-use Rattle.std.proofs.Common.{◌≡◌, ◌++◌, ◌∷◌, [], append-nil, refl, ap, sym, subst, ◌∙◌, rules}
+use Rattle.std.proofs.Common.{◌++◌, ◌∷◌, [], append-nil, refl, ap, sym, subst, ◌∙◌, rules}
 use Rattle.std.specs.Vec.Iter.{into_iter_items}
 use Rattle.merkle_replica.proofs.ListIterators.{one_yielded, all_yielded}
 use Rattle.merkle_wire.specs.ItsRows.{ForRowsOf, side_of}
-use Rattle.merkle_wire.specs.Taking.{has_digest}
+use Rattle.merkle_wire.specs.Taking.{AddsRows}
 use Rattle.merkle_wire.proofs.TakenMore.{rows-more}
-use Rattle.merkle_wire.proofs.taking.take_all.Goals as goal
-use Rattle.merkle_wire.proofs.Lacking.{has_row, new_rows}
+use Rattle.merkle_wire.proofs.taking.take_rows.Goals as goal
+use Rattle.merkle_wire.proofs.Lacking.{new_rows}
 
 pub rows-init : goal.rows-init
 rows-init g c = record {
@@ -22,19 +22,16 @@ rows-preserved g c =
     let r = c.in-Some.row in
     let kept = c.rows.invariant in
     let given = one_yielded c.rows.row-iterator c.next.new.self c.rows.yielded c.args.rows.items r c.in-Some.ensures.steps kept.left kept.count in
-    let before = c.has_digest.ensures.steady in
-    let now = (g.T.KeptTree.kept c.rows.tree).digests in
-    let told : c.as_slice.result.now ≡ laws.value_digest now.hasher r.1 = rw g.met.H.RowHasher.laws_are (c.as_slice.ensures ∙ c.as_bytes.ensures ∙ c.digest_of-digest.ensures) in
+    let before = c.take_row.ensures.steady in
     record {
       left = given.0;
       count = given.1;
       steady = λ sound. kept.steady (before sound);
-      kept = λ sound. c.has_digest.ensures.kept sound ∙ kept.kept (before sound);
+      kept = λ sound. c.take_row.ensures.kept sound ∙ kept.kept (before sound);
       taken = λ sound rows of.
-          let there = subst (λ t. ForRowsOf laws t.digests (λ local. c.in_ok-is_there.is_there ≡ has_row laws local r)) (kept.kept (before sound))
-          (λ rs are. c.in_ok-is_there.ensures.has sound rs are ∙ ap (has_digest laws (side_of now rs) r.0) told) in
-          rows-more laws (side_of (g.T.KeptTree.kept c.args.tree.now).digests rows) c.args.work.now c.rows.work c.take_row.new.self c.rows.yielded (r ∷ [])
-          (kept.taken (before sound) rows of) (rw (there rows of) at c.in_ok-take_row.ensures);
+          let one = subst (λ t. ForRowsOf laws t.digests (λ local. AddsRows laws local (r ∷ []) c.rows.work c.take_row.new.work)) (kept.kept (before sound)) (c.in_ok-take_row.ensures.taken sound) in
+          rows-more laws (side_of (g.T.KeptTree.kept c.args.tree.now).digests rows) c.args.work.now c.rows.work c.take_row.new.work c.rows.yielded (r ∷ [])
+          (kept.taken (before sound) rows of) (one rows of);
     }
 
 pub returns-clause-taken : goal.returns-clause-taken

@@ -1,7 +1,7 @@
 use Rattle.std.proofs.Common.{◌≡◌, ◌++◌, length}
 use Rattle.std.specs.Vec.Iter.{into_iter_items, into_iter_len}
 use Rattle.merkle_wire.specs.ItsRows.{ForRowsOf}
-use Rattle.merkle_wire.proofs.taking.take_all.Given as goal
+use Rattle.merkle_wire.proofs.taking.take_rows.Given as goal
 use Rattle.merkle_wire.proofs.Lacking.{new_rows}
 
 -- the rows so far are taken
