@@ -115,7 +115,7 @@ fn take_outlines<
             keep(&mut left, gap)?;
         } else {
             let outline = read_outline(&mut reader, N, with_pages, &gap)?;
-            match take_outline(tree, &gap, outline, work) {
+            match take_outline(tree, gap, outline, work) {
                 Ok(()) => {}
                 Err(error) => return Err(TakeError::Tree(error)),
             }

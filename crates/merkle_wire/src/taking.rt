@@ -65,11 +65,11 @@ pub(crate) fn take_outline<
     const N: usize,
 >(
     tree: &mut T,
-    gap: &OwnedGap<K>,
+    gap: OwnedGap<K>,
     came: OutlineRead<'_, K, V>,
     work: &mut Work<K, V>,
 ) -> Result<(), T::Error>
-    ensures taken { T.is_sound tree.new → OnOk result (TakesPage H.laws (T.kept tree.old).digests (owned_gap gap.now) (as_told came.entry)
+    ensures taken { T.is_sound tree.new → OnOk result (TakesPage H.laws (T.kept tree.old).digests (owned_gap gap) (as_told came.entry)
         work.old work.new) }
     ensures kept { T.is_sound tree.new → T.kept tree.new ≡ T.kept tree.old }
     ensures steady { T.is_sound tree.new → T.is_sound tree.old }
@@ -176,24 +176,18 @@ fn take_page<
     H: RowHasher<N, K, V>,
     T: KeptTree<N, K, V, H>,
     const N: usize,
->(
-    tree: &mut T,
-    gap: &OwnedGap<K>,
-    page: &PageRead<K>,
-    work: &mut Work<K, V>,
-) -> Result<(), T::Error>
-    ensures taken { T.is_sound tree.new → OnOk result (TakesPage H.laws (T.kept tree.old).digests (owned_gap gap.now)
+>(tree: &mut T, gap: OwnedGap<K>, page: &PageRead<K>, work: &mut Work<K, V>) -> Result<(), T::Error>
+    ensures taken { T.is_sound tree.new → OnOk result (TakesPage H.laws (T.kept tree.old).digests (owned_gap gap)
         (as_told (OutlineRead.Page page.now)) work.old work.new) }
     ensures kept { T.is_sound tree.new → T.kept tree.new ≡ T.kept tree.old }
     ensures steady { T.is_sound tree.new → T.is_sound tree.old }
 {
-    take_pages(tree, gap, &page.below, &page.last, work)?;
+    take_pages(tree, &gap, &page.below, &page.last, work)?;
     if has_nodes(tree, &page.below, &page.digest)? {
         work.note_same(page.below.len(), page.bytes);
         return Ok(());
     }
-    let own = OwnedGap::between(gap.after.as_ref(), gap.before.as_ref())?;
-    work.add_nodes(own)?;
+    work.add_nodes(gap)?;
     Ok(())
 }
 

@@ -94,31 +94,6 @@ gaps-preserved g c =
           taken-more laws (side_of own rows) kept.told one c.args.work.now c.gaps.work c.take_outline.new.work (kept.taken (before sound) rows of) (now rows of);
     }
 
-pub gaps-preserved-in-Ok : goal.gaps-preserved-in-Ok
-gaps-preserved-in-Ok g c =
-    let laws = g.H.RowHasher.laws in
-    let gap = c.in-Some.gap in
-    let kept = c.gaps.invariant in
-    let came = c.in_ok-outline in
-    let one : OwnedGap g.row.K.Denot × Outline g.row.K.Denot g.row.V.Denot = (gap, as_told came.outline) in
-    let own = (g.T.KeptTree.kept c.args.tree.now).digests in
-    let given = one_yielded c.gaps.gap-iterator c.next.new.self c.gaps.yielded c.args.gaps.items gap c.in-Some.ensures.steps kept.left kept.count in
-    let some : c.gaps.reader.left.now ≢ [] = λ e. some_bytes c.left.result.now (sym c.is_empty.ensures ∙ c.if-is_empty.false) (c.left.ensures ∙ e) in
-    let before = c.take_outline.ensures.steady in
-    record {
-      left = given.0;
-      count = given.1;
-      told = kept.told ++ one ∷ [];
-      read = read_more c.args.kind (told_bytes g) (Lies g) c.args.reply.now c.gaps.yielded c.gaps.left.items c.gaps.reader.left.now kept.told kept.read gap one.1
-          c.read_outline.new.reader.left.now some came.ensures.lies came.ensures.read;
-      steady = λ sound. kept.steady (before sound);
-      kept = λ sound. c.take_outline.ensures.kept sound ∙ kept.kept (before sound);
-      taken = λ sound rows of.
-          let now = subst (λ t. ForRowsOf laws t.digests (λ local. IsPageTaken laws local (owned_gap gap) one.1 c.gaps.work c.take_outline.new.work)) (kept.kept (before sound))
-          (c.in-Ok.ensures.taken sound) in
-          taken-more laws (side_of own rows) kept.told one c.args.work.now c.gaps.work c.take_outline.new.work (kept.taken (before sound) rows of) (now rows of);
-    }
-
 -- the laws of keys, values and hasher
 abbrev laws_at : (g : Over) → Laws g.row.K.Denot g.row.V.Denot g.row.H.Denot
 laws_at g = laws_of g.K.Ord.cmp g.K.KeyBytes.bytes_of g.H.Hasher-1.digest_of g.V.PartialEq.eq g.V.Join.join_of g.H.Hasher-2.digest_of
