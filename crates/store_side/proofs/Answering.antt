@@ -36,8 +36,7 @@ use Rattle.store_tree.specs.Texts.{bytes_gap, bytes_item, bytes_map}
 use Rattle.store_tree.specs.declared.outline.Outline.{Outline}
 use Rattle.store_tree.proofs.Parts.{map_rows}
 use Rattle.store_side.specs.Answered.{AreRowsBetween, IsFileOutline, IsRegisterAt, text_encoding}
-use Rattle.store_side.specs.Digests.{AreLatestRows, AreOneRegister, digest_rows}
-use Rattle.store_side.specs.FileTrees.{TextDigests, TextRows, key_level}
+use Rattle.store_rows.specs.Digests.{AreLatestRows, AreOneRegister, TextDigests, TextRows, digest_rows, key_level}
 use Rattle.store_side.specs.Sides.{file_tree}
 use Rattle.store_side.proofs.Pages.{one_text, told_by_bytes}
 

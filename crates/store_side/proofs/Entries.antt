@@ -22,9 +22,9 @@ use Rattle.store_file.proofs.Ranging.{KeepsLast, keeps_more}
 use Rattle.store_tree.specs.Cells.{HoldsCells, KeyDigests}
 use Rattle.store_tree.specs.Texts.{bytes_map}
 use Rattle.store_tree.specs.declared.table.TheConstants.{CELLS}
-use Rattle.store_side.specs.Digests.{AreLatestRows, AreLatestDigests, AreOneRegister, digest_rows}
-use Rattle.store_side.specs.FileTrees.{HasTreeOf, TextDigests, TextRows, key_level}
-use Rattle.store_side.proofs.Holding.{alike, latest_digests, same_bytes}
+use Rattle.store_rows.specs.Digests.{AreLatestDigests, AreLatestRows, AreOneRegister, TextDigests, TextRows, digest_rows, key_level}
+use Rattle.store_side.specs.FileTrees.{HasTreeOf}
+use Rattle.store_rows.proofs.Holding.{alike, latest_digests, same_bytes}
 
 -- ---- the rows that entries leave
 

@@ -16,9 +16,9 @@ use Rattle.store_tree.specs.Texts.{bytes_map}
 use Rattle.store_tree.specs.declared.table.TheConstants.{CELLS}
 use Rattle.merkle_tree_theory.specs.Tree.{Tree}
 use Rattle.merkle_tree_theory.specs.TreeOf.{tree_of}
-use Rattle.store_side.specs.Digests.{AreLatestRows, HoldsDigests, digest_rows}
-use Rattle.store_side.specs.FileTrees.{HasTreeOf, IsFileOf, TextDigests, TextRows, key_level}
-use Rattle.store_side.proofs.Holding.{latest_digests}
+use Rattle.store_rows.specs.Digests.{AreLatestRows, HoldsDigests, TextDigests, TextRows, digest_rows, key_level}
+use Rattle.store_side.specs.FileTrees.{HasTreeOf, IsFileOf}
+use Rattle.store_rows.proofs.Holding.{latest_digests}
 
 -- where no table but that of cells has changed, rows still have the latest registers
 latest_stay : (rows : TextRows) (old new : Trees) → KeepsOthers old new → AreLatestRows old rows → AreLatestRows new rows

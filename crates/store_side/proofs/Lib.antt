@@ -1,10 +1,5 @@
 pub mod Answering
 pub mod Entries
 pub mod Files
-pub mod Holding
-pub mod Landing
-pub mod Looping
 pub mod Pages
-pub mod Setting
 pub mod Standing
-pub mod Stepping

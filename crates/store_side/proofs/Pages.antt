@@ -30,7 +30,8 @@ use Rattle.store_tree.specs.Calls.{digest_over}
 use Rattle.store_tree.specs.Texts.{bytes_gap, bytes_map, TellsAlike}
 use Rattle.store_tree.proofs.Sets.{same_key}
 use Rattle.store_tree.proofs.Texts.{tells_alike}
-use Rattle.store_side.specs.FileTrees.{TextDigests, digests_under, file_laws, key_level, SaysKeysPage}
+use Rattle.store_rows.specs.Digests.{TextDigests, key_level}
+use Rattle.store_side.specs.FileTrees.{digests_under, file_laws, SaysKeysPage}
 
 -- texts that are equal have the same bytes
 pub one_text : (a b : Text) → Same text_order a b → string_bytes a ≡ string_bytes b

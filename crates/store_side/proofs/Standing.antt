@@ -4,8 +4,9 @@ use Rattle.sqlite_trees.specs.declared.store.Store.{Ghosts}
 use Rattle.sqlite_trees.proofs.Doubt.{clean_of, no_doubt}
 use Rattle.store_file.specs.Logs.{IsClean, IsLog, IsOpen, trees_of}
 use Rattle.store_tree.specs.Tables.{HasTable}
-use Rattle.store_side.specs.FileTrees.{HasTreeOf, IsFile, IsFileOf, TextRows}
-use Rattle.store_side.specs.InStep.{StandsInStep}
+use Rattle.store_rows.specs.Digests.{TextRows}
+use Rattle.store_side.specs.FileTrees.{HasTreeOf, IsFile, IsFileOf}
+use Rattle.store_rows.specs.InStep.{StandsInStep}
 use Rattle.store_side.proofs.Entries.{entries_have_rows}
 use Rattle.store_side.proofs.Files.{open_if_sound}
 

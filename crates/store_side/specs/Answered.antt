@@ -16,8 +16,7 @@ use Rattle.store_file.specs.declared.register.Register.{Register}
 use Rattle.store_tree.specs.Outlines.{IsOutlineAt}
 use Rattle.store_tree.specs.Texts.{bytes_map}
 use Rattle.store_tree.specs.declared.outline.Outline.{Outline}
-use Rattle.store_side.specs.Digests.{AreOneRegister, digest_rows}
-use Rattle.store_side.specs.FileTrees.{TextRows, key_level}
+use Rattle.store_rows.specs.Digests.{AreOneRegister, TextRows, digest_rows, key_level}
 use Rattle.store_side.specs.Sides.{contents_under, file_tree}
 
 -- the bytes of a key in a message

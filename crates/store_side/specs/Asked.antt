@@ -5,7 +5,7 @@ use Rattle.key_order.specs.Text.{Text, text_order}
 use Rattle.merkle_bytes.specs.Options.{IsOption}
 use Rattle.merkle_wire.specs.Sessions.{IsKeyOf}
 use Rattle.sqlite_trees.specs.Tree.{Trees}
-use Rattle.store_side.specs.Digests.{AreLatestDigests}
+use Rattle.store_rows.specs.Digests.{AreLatestDigests}
 
 module _ (hash_key : List ℕ) (trees : Trees) where
   -- it is a key of whatever map is the latest registers, or none

@@ -2,9 +2,7 @@
 use Rattle.std.specs.Prelude.{◌≡◌, ℕ, Bool, false, List, Result, IfOk, IsTrue, string_bytes}
 use Rattle.key_order.specs.Map.{IsMap}
 use Rattle.key_order.specs.Text.{Text, text_order}
-use Rattle.merkle_digest.specs.Level.{level_of}
 use Rattle.merkle_digest.specs.SipDigests.{text_digest}
-use Rattle.merkle_digest.specs.SipHash.{siphash128}
 use Rattle.merkle_replica.specs.Descent.{HasPage}
 use Rattle.merkle_replica.specs.Laws.{Laws}
 use Rattle.merkle_tree_theory.specs.Gap.{Gap}
@@ -23,19 +21,7 @@ use Rattle.store_tree.specs.Cells.{HoldsCells}
 use Rattle.store_tree.specs.Tables.{HasTable}
 use Rattle.store_tree.specs.Texts.{bytes_map}
 use Rattle.store_tree.specs.declared.table.TheConstants.{CELLS}
-use Rattle.store_side.specs.Digests.{AreLatestRows, register_digest, digest_rows}
-
--- keys, each with the digest of its value
-abbrev pub TextDigests : Type 0
-TextDigests = List (Text × List ℕ)
-
--- keys, each with its latest register
-abbrev pub TextRows : Type 0
-TextRows = List (Text × Register)
-
--- the level of a key by its bytes under a hash key
-abbrev pub key_level : List ℕ → List ℕ → ℕ
-key_level hash_key bytes = level_of (siphash128 hash_key bytes) 16
+use Rattle.store_rows.specs.Digests.{AreLatestRows, TextDigests, TextRows, register_digest, digest_rows, key_level}
 
 -- the order of keys, their bytes and digests; the equality of registers, the later of two, and their digests
 abbrev pub file_laws : Laws Text Register (List ℕ)

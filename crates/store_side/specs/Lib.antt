@@ -1,7 +1,5 @@
 pub mod Answered
 pub mod Asked
-pub mod DigestLaws
-pub mod Digests
+pub mod FileLaws
 pub mod FileTrees
-pub mod InStep
 pub mod Sides

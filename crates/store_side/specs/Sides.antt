@@ -9,8 +9,8 @@ use Rattle.merkle_tree_theory.specs.TreeOf.{defined_tree}
 use Rattle.merkle_tree_theory.specs.declared.page_format.PageFormat.TheVariants.{V2}
 use Rattle.merkle_wire.specs.ItsRows.{Kept}
 use Rattle.store_file.specs.declared.register.Register.{Register}
-use Rattle.store_side.specs.Digests.{digest_rows}
-use Rattle.store_side.specs.FileTrees.{TextDigests, TextRows, digests_under}
+use Rattle.store_rows.specs.Digests.{TextDigests, TextRows, digest_rows}
+use Rattle.store_side.specs.FileTrees.{digests_under}
 
 -- the tree of keys with these digests under a hash key, in level base 16 and page format 2, with the digest of its root page
 abbrev pub file_tree : List ℕ → TextDigests → State Text (List ℕ)

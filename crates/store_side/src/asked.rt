@@ -9,7 +9,6 @@ ghost use Rattle.store_file.specs.Transactions.{CommitsNothing};
 ghost use Rattle.store_file.specs.Walks.{MakesView, StaysBut};
 ghost use Rattle.store_side.specs.Asked.{IsDigestOf, IsSomeKey};
 
-use crate::digests::LatestDigests;
 use merkle_digest::ValueDigest;
 use merkle_wire::rows_ascend;
 use sqlite_trees::store::Store;
@@ -18,6 +17,7 @@ use store_file::Register;
 use store_file::latest::latest_at;
 use store_file::range::{first_key, latest_between};
 use store_file::table::Entries;
+use store_rows::LatestDigests;
 use store_tree::TreeFault;
 use store_tree::pairs::DIGEST_LEN;
 

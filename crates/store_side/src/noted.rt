@@ -1,13 +1,14 @@
 //! The rows of a file that contracts speak of.
 ghost use Rattle.std.specs.Borrow.{ftrue};
-ghost use Rattle.store_side.specs.FileTrees.{IsFile, IsFileOf, TextRows};
+ghost use Rattle.store_rows.specs.Digests.{TextRows};
+ghost use Rattle.store_side.specs.FileTrees.{IsFile, IsFileOf};
 
-use crate::digests::LatestDigests;
 use merkle_wire::{KeptRows, OwnedGap};
 use sqlite_trees::store::Store;
 use std::alloc::AllocError;
 use std::marker::Model;
 use store_file::Register;
+use store_rows::LatestDigests;
 
 /// The rows of a file, for contracts alone: it takes no bytes.
 #[derive(Drop)]

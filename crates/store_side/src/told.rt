@@ -10,7 +10,6 @@ ghost use Rattle.store_side.specs.FileTrees.{IsFile, IsFileOf, KeepsFile, TellsF
 ghost use Rattle.store_tree.specs.Outlines.{found_items};
 ghost use Rattle.store_tree.specs.Texts.{bytes_gap, bytes_item};
 
-use crate::digests::LatestDigests;
 use crate::filed::{find_latest, find_outline, find_rows};
 use crate::noted::Noted;
 use merkle_bytes::Encode;
@@ -20,6 +19,7 @@ use merkle_wire::{OwnedGap, Telling, tell_outline, tell_part};
 use sqlite_trees::store::Store;
 use std::alloc::{AllocError, Global};
 use store_file::Register;
+use store_rows::LatestDigests;
 use store_tree::TreeFault;
 use store_tree::outline::Outline;
 use store_tree::pairs::DIGEST_LEN;

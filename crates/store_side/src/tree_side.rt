@@ -4,7 +4,6 @@ ghost use Rattle.store_file.specs.Logs.{IsClean};
 ghost use Rattle.store_side.specs.FileTrees.{IsFile};
 ghost use Rattle.store_side.specs.Sides.{file_contents, kept_in_file};
 
-use crate::digests::LatestDigests;
 use crate::filed::{find_digest, find_key, find_page_at, find_root};
 use crate::noted::{Noted, note};
 use crate::told::{add_latest, add_page, add_rows, count_rows};
@@ -17,6 +16,7 @@ use std::alloc::Global;
 use std::marker::Model;
 use std::num::NonZeroU8;
 use store_file::Register;
+use store_rows::LatestDigests;
 use store_tree::TreeFault;
 use store_tree::pairs::DIGEST_LEN;
 

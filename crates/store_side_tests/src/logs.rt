@@ -1,6 +1,6 @@
 //! Logs in memory with a table of cells.
 ghost use Rattle.store_file.specs.Logs.{HasTables, IsClean, IsLog};
-ghost use Rattle.store_side.specs.InStep.{StandsInStep};
+ghost use Rattle.store_rows.specs.InStep.{StandsInStep};
 
 use merkle_digest::PageDigest;
 use sqlite_trees::error::StoreError;
@@ -14,9 +14,10 @@ use std::test::Fail;
 use store_file::format::HASH_KEY_LEN;
 use store_file::log::Log;
 use store_file::{Register, StoreFault};
+use store_rows::LatestDigests;
+use store_rows::writing::{add_all, replace_all};
+use store_side::FileTree;
 use store_side::laws::a_log_in_step_is_a_file;
-use store_side::writing::{add_all, replace_all};
-use store_side::{FileTree, LatestDigests};
 use store_tree::outline::{Outline, outline_over};
 use store_tree::root::root_digest;
 use store_tree::table::has_table;

@@ -3,10 +3,9 @@ use Rattle.key_order.specs.Map.{get}
 use Rattle.key_order.specs.Text.{text_order}
 use Rattle.store_file.specs.Logs.{trees_of}
 use Rattle.store_side.specs.Asked.{IsDigestOf}
-use Rattle.store_side.specs.Digests.{digest_rows}
-use Rattle.store_side.specs.FileTrees.{TextRows}
+use Rattle.store_rows.specs.Digests.{TextRows, digest_rows}
 use Rattle.store_side.proofs.Files.{reads_stay, settled_clean, settled_keeps, settled_tells}
-use Rattle.store_side.proofs.Holding.{latest_digests}
+use Rattle.store_rows.proofs.Holding.{latest_digests}
 use Rattle.store_side.proofs.filed.find_digest.Goals as goal
 
 pub returns-clause-digest : goal.returns-clause-digest

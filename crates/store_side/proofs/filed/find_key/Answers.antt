@@ -4,10 +4,9 @@ use Rattle.merkle_bytes.specs.Options.{IsOption}
 use Rattle.merkle_wire.specs.Sessions.{IsKeyOf}
 use Rattle.store_file.specs.Logs.{trees_of}
 use Rattle.store_side.specs.Asked.{IsSomeKey}
-use Rattle.store_side.specs.Digests.{digest_rows}
-use Rattle.store_side.specs.FileTrees.{TextRows}
+use Rattle.store_rows.specs.Digests.{TextRows, digest_rows}
 use Rattle.store_side.proofs.Files.{reads_stay, settled_clean, settled_keeps, settled_tells}
-use Rattle.store_side.proofs.Holding.{latest_digests}
+use Rattle.store_rows.proofs.Holding.{latest_digests}
 use Rattle.store_side.proofs.filed.find_key.Goals as goal
 
 pub returns-clause-key : goal.returns-clause-key

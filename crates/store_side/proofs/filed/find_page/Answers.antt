@@ -1,9 +1,9 @@
 use Rattle.std.proofs.Common.{sym, ◌∙◌, rules}
 use Rattle.store_file.specs.Logs.{trees_of}
-use Rattle.store_side.specs.Digests.{HoldsDigests}
+use Rattle.store_rows.specs.Digests.{HoldsDigests}
 use Rattle.store_side.specs.FileTrees.{SaysFilePage}
 use Rattle.store_side.proofs.Files.{search_stays, settled_clean, settled_keeps, settled_tells, tree_found}
-use Rattle.store_side.proofs.Holding.{digests_ascend}
+use Rattle.store_rows.proofs.Holding.{digests_ascend}
 use Rattle.store_side.proofs.filed.find_page.Goals as goal
 use Rattle.store_tree.specs.Calls.{FindsInTree, SaysPage}
 use Rattle.store_tree.specs.Pages.{text_gap}

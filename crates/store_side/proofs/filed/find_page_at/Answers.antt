@@ -1,7 +1,7 @@
 use Rattle.std.proofs.Common.{◌≡◌, subst}
 use Rattle.merkle_search_tree.specs.Items.{lent_gap}
 use Rattle.store_file.proofs.Outcomes.{if_ok}
-use Rattle.store_side.specs.Digests.{digest_rows}
+use Rattle.store_rows.specs.Digests.{digest_rows}
 use Rattle.store_side.specs.FileTrees.{SaysFilePage}
 use Rattle.store_side.proofs.Pages.{said_lacked, said_there}
 use Rattle.store_side.proofs.filed.find_page_at.Goals as goal

@@ -1,7 +1,7 @@
 use Rattle.std.proofs.Common.{sym, ◌∙◌, rules}
 use Rattle.store_file.specs.Logs.{trees_of}
 use Rattle.store_side.specs.Answered.{IsFileRoot}
-use Rattle.store_side.specs.Digests.{HoldsDigests, digest_rows}
+use Rattle.store_rows.specs.Digests.{HoldsDigests, digest_rows}
 use Rattle.store_side.proofs.Answering.{root_told}
 use Rattle.store_side.proofs.Files.{search_stays, settled_clean, settled_keeps, settled_tells, tree_found}
 use Rattle.store_side.proofs.filed.find_root.Goals as goal

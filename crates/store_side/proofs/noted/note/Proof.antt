@@ -22,7 +22,7 @@ use denote.Triple.Entry.{alive}
 use denote.Triple.Walked.{says, stay_none_ref, Stays, walk_of, ends_at, Goes-none_ref}
 use Rattle.std.proofs.raw_atomic.Walks.{proved}
 use Rattle.store_side.specs.FileTrees.{IsFile}
-use Rattle.store_side.specs.contracts.digests.LatestDigests as digests
+use Rattle.store_rows.specs.contracts.digests.LatestDigests as digests
 use Rattle.store_side.specs.contracts.noted.Noted as noted
 use Rattle.store_side.specs.contracts.noted.note as f
 use Rattle.store_side.proofs.noted.note.Statement.{statement}

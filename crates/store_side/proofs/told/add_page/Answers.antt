@@ -6,7 +6,7 @@ use Rattle.merkle_wire.specs.Replies.{items_over}
 use Rattle.merkle_wire.specs.Steps.{AddsTold}
 use Rattle.store_file.specs.WireRegisters.{register_encoding}
 use Rattle.store_side.specs.Answered.{text_encoding}
-use Rattle.store_side.specs.Digests.{digest_rows}
+use Rattle.store_rows.specs.Digests.{digest_rows}
 use Rattle.store_side.specs.Sides.{file_tree}
 use Rattle.store_side.proofs.Answering.{outline_told}
 use Rattle.store_side.proofs.told.add_page.Goals as goal

@@ -1,5 +1,5 @@
 use Rattle.store_file.specs.Logs.{IsLog}
-use Rattle.store_side.specs.InStep.{StandsInStep}
+use Rattle.store_rows.specs.InStep.{StandsInStep}
 use Rattle.store_side_tests.proofs.logs.make_writes.Given as goal
 
 abbrev pub invariant-writes : goal.invariant-writes

@@ -1,0 +1,16 @@
+use Rattle.store_rows.specs.InStep.{PutsInStep, IsInStep}
+use Rattle.store_rows.proofs.Landing.{lands, stands_on}
+use Rattle.store_rows.proofs.writing.replace_all.Goals as goal
+
+pub returns-clause-replaced : goal.returns-clause-replaced
+returns-clause-replaced g c =
+    let old = c.args.trees.now in
+    lands g.S.Store old c.put_each-written.new.trees c.commit.new.trees c.put_each-written.result c.commit.result (PutsInStep c.args.hash_key.now c.args.entries.now)
+    (rw c.new.ensures at c.put_each-written.ensures.put) (c.commit.ensures.written old c.requires.log c.put_each-written.ensures.uncommitted)
+
+pub returns-clause-stands : goal.returns-clause-stands
+returns-clause-stands g c stood clean opened =
+    let did = c.commit.ensures in
+    let hash_key = c.args.hash_key.now in
+    stands_on g.S.Store c.args.trees.now c.put_each-written.new.trees c.commit.new.trees c.put_each-written.ensures.uncommitted did.steady did.was_open (IsInStep hash_key) stood clean opened
+    c.commit.result (PutsInStep hash_key c.args.entries.now) (returns-clause-replaced g c) (λ put _. put.in_step)
