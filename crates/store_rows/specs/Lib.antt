@@ -1,3 +1,4 @@
 pub mod DigestLaws
 pub mod Digests
 pub mod InStep
+pub mod Removals

@@ -2,6 +2,7 @@
 #![tactic(auto)]
 
 pub mod digests;
+pub mod latest;
 pub mod laws;
 pub mod writing;
 

@@ -1,9 +1,10 @@
 //! Writes that keep a log and the tree of its latest registers in step, each in one transaction.
-ghost use Rattle.std.specs.Prelude.{◌≡◌, ◌≤◌, ◌^◌, ℕ, List, [], IfErr, IsErrOf, string_bytes};
+ghost use Rattle.std.specs.Prelude.{◌≡◌, ◌≤◌, ◌^◌, ℕ, List, [], length, IfErr, IsErrOf, string_bytes};
 ghost use Rattle.store_file.specs.Changes.{HasInstead, HasOneMore};
 ghost use Rattle.store_file.specs.Faults.{IsFailure, IsUnwritten};
-ghost use Rattle.store_file.specs.Logs.{HasTables, IsClean, IsLog, Makes, Writes};
+ghost use Rattle.store_file.specs.Logs.{HasTables, IsClean, IsLog, Makes, MakesAndFinds, Refuses, Writes};
 ghost use Rattle.store_file.specs.Registers.{HaveLateTime};
+ghost use Rattle.store_file.specs.Rows.{HasLateRow, IsCompacted};
 ghost use Rattle.store_file.specs.Transactions.{CommitsNothing};
 ghost use Rattle.store_rows.specs.Digests.{key_level};
 ghost use Rattle.store_rows.specs.InStep.{AddsInStep, IsInStep, LoadsInStep, PutsInStep, StandsInStep, StaysInStep};
@@ -17,6 +18,7 @@ use sqlite_trees::store::Store;
 use std::alloc::Global;
 use store_file::format::HASH_KEY_LEN;
 use store_file::log::commit;
+use store_file::rows::{forget, read_latest_in};
 use store_file::table::{add_at, clear_at};
 use store_file::{Register, StoreFault};
 use store_tree::table::has_table;
@@ -174,7 +176,7 @@ fn put_each<S: Store>(
 /// of an insertion and of a [`write`](store_tree::write::write) to the tree for each entry, and of one commit.
 ///
 /// ```rust crates/store_side_tests/src/logs.rt
-/// add_all(alloc, trees, hash_key, &write.entries)
+/// Write::Add(entries) => add_all(alloc, trees, hash_key, entries)?,
 /// ```
 ///
 /// # Errors
@@ -221,4 +223,32 @@ pub fn replace_all<S: Store>(
 {
     let written = put_each(alloc, trees, &SipHasher::new(hash_key), entries);
     commit(trees, written)
+}
+
+/// Leaves one entry for each key, and none for a removal that is older than `before`, in the log and in its tree, and returns how many are left: the log and
+/// its tree are in step then, however they were. It takes memory linear in the log, and the time of a sort of its entries and of a [`replace_all`].
+///
+/// # Errors
+///
+/// [`StoreFault::Database`], [`StoreFault::Malformed`] where a table is damaged, or there is no table of cells, and [`StoreFault::Memory`]: the file is then
+/// as it was.
+pub fn compact<S: Store>(
+    alloc: Global,
+    trees: &mut S,
+    hash_key: &[u8; HASH_KEY_LEN],
+    before: u64,
+) -> Result<usize, StoreFault>
+    requires log { IsLog S.Store trees.old }
+    ensures log { IsLog S.Store trees.new }
+    ensures compacted { Writes S.Store trees.old trees.new result (IsCompacted before) }
+    ensures in_step { Writes S.Store trees.old trees.new result (λ _. IsInStep hash_key.now) }
+    ensures left { MakesAndFinds S.Store trees.old trees.new result (λ _ new left. left ≡ length (new 0)) }
+    ensures stands { StandsInStep S.Store hash_key.now trees.old → StandsInStep S.Store hash_key.now trees.new }
+    ensures late { Refuses S.Store trees.old trees.new result StoreFault.Time HasLateRow }
+    ensures faults { IfErr result IsUnwritten }
+{
+    let mut rows = read_latest_in(alloc, trees)?;
+    forget(&mut rows, before);
+    replace_all(alloc, trees, hash_key, &rows)?;
+    Ok(rows.len())
 }
