@@ -18,7 +18,7 @@ use Rattle.store_tree.specs.Cells.{bytes_order, KeyDigests, AreUnder, HoldsCells
 use Rattle.store_tree.specs.Filling.{AreScanned, FillsCell, FillsNodes, FillsPage, FindsRoot, IsAllKnown, IsNodeAt, Keeps, front_of}
 use Rattle.store_tree.specs.Maps.{ArePairsIn, IsLeafOf, bytes_pair, leaf_node}
 use Rattle.store_tree.specs.Pages.{TellsNodes, HasPair, Tells, TellsGap, gap_between, known_of}
-use Rattle.store_tree.specs.Rows.{IsTop, cell_row, front_value, known_value, row_of_cell, rows_between, with_known}
+use Rattle.store_tree.specs.Rows.{IsTop, cell_row, count_value, front_value, known_value, row_of_cell, rows_between, with_known}
 use Rattle.store_tree.specs.Tables.{IsScan}
 use Rattle.store_tree.specs.declared.cell.Cell.{Cell}
 use Rattle.store_tree.specs.declared.cell.Known.{Known}
@@ -117,9 +117,10 @@ cells_are l known (c ∷ cells) (f ∷ fs) e =
     let here : row_of_cell c ≡ cell_row l f (known f) = cc in
     let fronts : front_value (front_of c) ≡ front_value f = cc in
     let knowns : known_value c.known ≡ known_value (known f) = cc in
+    let counts : count_value c.known ≡ count_value (known f) = cc in
     let same : front_of c ≡ f = same_front (front_of c) f fronts in
     let others = cells_are l known cells fs rest in
-    record { fronts = λ i. same i ∷ others.fronts i; knowns = (same_known c.known (known f) knowns ∙ ap known (sym same), others.knowns) }
+    record { fronts = λ i. same i ∷ others.fronts i; knowns = (same_known c.known (known f) knowns counts ∙ ap known (sym same), others.knowns) }
 
 pub weaker_bound : (lev : List ℕ → ℕ) (m : KeyDigests) (l : ℕ) (b : Front) → IsBoundAt lev m (suc l) b → IsBoundAt lev m l b
 weaker_bound lev m l None h = tt
@@ -275,9 +276,10 @@ root_filled Holds old mid new level cells c rest k is low same some scan fills l
     let here : row_of_cell c ≡ cell_row level None (on.known None) = cc in
     let fronts : front_value (front_of c) ≡ front_value None = cc in
     let knowns : known_value c.known ≡ known_value (on.known None) = cc in
+    let counts : count_value c.known ≡ count_value (on.known None) = cc in
     let front : front_of c ≡ None = same_front (front_of c) None fronts in
     let knows : Knows lev m level c.known (front_of c) =
-    subst (λ f. Knows lev m level c.known f) (sym front) (subst (λ j. Knows lev m level j None) (sym (same_known c.known (on.known None) knowns)) on.right.0) in
+    subst (λ f. Knows lev m level c.known f) (sym front) (subst (λ j. Knows lev m level j None) (sym (same_known c.known (on.known None) knowns counts)) on.right.0) in
     let gap : IsGapOf lev m level None (gap_between None None) =
     record { after = refl; begins = tt; before = tt; proper = tt; under = subst (AreUnder lev level) (sym (whole m)) (subst (λ l. AreUnder lev l m) top h.under) } in
     let gap_is : IsGapOf lev m level (front_of c) (gap_between (front_of c) None) = subst (λ f. IsGapOf lev m level f (gap_between f None)) (sym front) gap in

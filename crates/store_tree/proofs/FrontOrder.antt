@@ -14,7 +14,7 @@ use Rattle.sqlite_value.specs.Order.{Row}
 use Rattle.sqlite_value.proofs.OrderLemmas.{value_cmp-Null, value_cmp-Text}
 use Rattle.sqlite_trees.specs.Tree.{IsAscending}
 use Rattle.store_tree.specs.Cells.{bytes_order, KeyDigests, fronts_of}
-use Rattle.store_tree.specs.Rows.{cell_row, front_value, known_value, is_upto}
+use Rattle.store_tree.specs.Rows.{cell_row, count_value, front_value, known_value, is_upto}
 use Rattle.store_tree.specs.Touches.{is_front}
 use Rattle.store_tree.specs.declared.cell.Known.{Known}
 use Rattle.store_tree.specs.declared.cell.Known.TheVariants.{Unknown, Nothing, Page}
@@ -95,16 +95,21 @@ same_front None (Some b) e = absurd (let never = e in cc)
 same_front (Some a) None e = absurd (let never = e in cc)
 same_front (Some a) (Some b) e = let same : a ≡ b = cc in ap (λ k. Some k) same
 
-pub same_known : (k j : Known) → known_value k ≡ known_value j → k ≡ j
-same_known Unknown Unknown e = refl
-same_known Unknown Nothing e = absurd (let never = e in cc)
-same_known Unknown (Page b) e = absurd (let never = e in cc)
-same_known Nothing Unknown e = absurd (let never = e in cc)
-same_known Nothing Nothing e = refl
-same_known Nothing (Page b) e = absurd (let never = e in cc)
-same_known (Page a) Unknown e = absurd (let never = e in cc)
-same_known (Page a) Nothing e = absurd (let never = e in cc)
-same_known (Page a) (Page b) e = let same : a ≡ b = cc in ap (λ k. Page k) same
+pub same_known : (k j : Known) → known_value k ≡ known_value j → count_value k ≡ count_value j → k ≡ j
+same_known Unknown Unknown e f = refl
+same_known Unknown Nothing e f = absurd (let never = e in cc)
+same_known Unknown (Page b n) e f = absurd (let never = e in cc)
+same_known Nothing Unknown e f = absurd (let never = e in cc)
+same_known Nothing Nothing e f = refl
+same_known Nothing (Page b n) e f = absurd (let never = e in cc)
+same_known (Page a m) Unknown e f = absurd (let never = e in cc)
+same_known (Page a m) Nothing e f = absurd (let never = e in cc)
+same_known (Page a m) (Page b n) e f = let digest : a ≡ b = cc in let count : m ≡ n = cc in λ i. Page (digest i) (count i)
+
+pub unknown_known : (k : Known) → known_value k ≡ known_value Unknown → k ≡ Unknown
+unknown_known Unknown e = refl
+unknown_known Nothing e = absurd (let never = e in cc)
+unknown_known (Page a m) e = absurd (let never = e in cc)
 
 abbrev pub front_below : Front → Front → Bool
 front_below g None = false

@@ -20,7 +20,7 @@ use Rattle.store_tree.specs.Cells.{bytes_order, KeyDigests, HoldsCells, HoldsLev
 use Rattle.store_tree.specs.Loads.{AddsKey, HoldsNoKeys, KnowsNothing}
 use Rattle.store_tree.specs.Rows.{IsTop, cell_row, is_level, known_value, rows_on, with_front, with_fronts, with_levels}
 use Rattle.store_tree.specs.declared.cell.Known.TheVariants.{Unknown}
-use Rattle.store_tree.proofs.FrontOrder.{same_known}
+use Rattle.store_tree.proofs.FrontOrder.{unknown_known}
 use Rattle.store_tree.proofs.Fronts.{Front}
 use Rattle.store_tree.proofs.Places.{inserted_among, inserted_other, on_own, rows_order, rows_turned}
 use Rattle.store_tree.proofs.Sets.{same_key, set_own, set_other}
@@ -91,7 +91,7 @@ bare_from lev m l rows all h = h.fronts ∙ alike (fronts_of (pairs_from lev m l
   where
     alike : (fs : List Front) → AllByRecursion IsUnknown (map (λ f. cell_row l f (h.known f)) fs) → map (λ f. cell_row l f (h.known f)) fs ≡ map (bare l) fs
     alike [] a = refl
-    alike (f ∷ fs) a = λ i. cell_row l f (same_known (h.known f) Unknown a.0 i) ∷ alike fs a.1 i
+    alike (f ∷ fs) a = λ i. cell_row l f (unknown_known (h.known f) a.0 i) ∷ alike fs a.1 i
 
 pub holds_bare : (lev : List ℕ → ℕ) (m : KeyDigests) (l : ℕ) (rows : List Row) → IsBare lev l m rows → HoldsLevel lev m l rows
 holds_bare lev m l rows is = record { known = λ f. Unknown; fronts = is; right = all_of (λ f. ⊤) (λ f. tt) (fronts_of (pairs_from lev m l)) }

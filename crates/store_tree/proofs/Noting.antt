@@ -71,12 +71,12 @@ module _ (lev : List ℕ → ℕ) (m : KeyDigests) (l : ℕ) (front : Front) whe
   pub knows_all : (k : Known) (gap : Gap (List ℕ)) → IsGapOf lev m l front gap → k ≢ Unknown → Knows lev m l k front → Tells k (held_within lev m gap)
   knows_all Unknown gap is some know = absurd (some refl)
   knows_all Nothing gap is some (other, it_is, none) = ap (held_within lev m) (same_gap gap other is it_is) ∙ none
-  knows_all (Page digest) gap is some (other, it_is, page_is) = subst (λ g. IsPageWith digest (held_within lev m g)) (sym (same_gap gap other is it_is)) page_is
+  knows_all (Page digest count) gap is some (other, it_is, page_is) = subst (λ g. IsPageWith digest count (held_within lev m g)) (sym (same_gap gap other is it_is)) page_is
 
   pub all_knows : (k : Known) (gap : Gap (List ℕ)) → IsGapOf lev m l front gap → Tells k (held_within lev m gap) → Knows lev m l k front
   all_knows Unknown gap is told = absurd told
   all_knows Nothing gap is told = (gap, is, told)
-  all_knows (Page digest) gap is told = (gap, is, told)
+  all_knows (Page digest count) gap is told = (gap, is, told)
 
 -- ---- a cell with something else known
 

@@ -1,5 +1,5 @@
 -- What is told of a map's tree: the digest of its root page, and the outline of the page over a gap.
-use Rattle.std.proofs.Common.{◌≡◌, ◌<◌, ℕ, List, [], ◌∷◌, ◌++◌, map, Option, Some, None, refl, sym, ap, subst, ◌∙◌, arith, string_bytes}
+use Rattle.std.proofs.Common.{◌≡◌, ◌<◌, ℕ, List, [], ◌∷◌, ◌++◌, map, Option, Some, None, refl, sym, ap, subst, ◌∙◌, arith, length, string_bytes}
 use Rattle.key_order.specs.Map.{IsMap}
 use Rattle.merkle_tree_theory.specs.Canonical.{IsGap}
 use Rattle.merkle_tree_theory.specs.Gap.{Gap, everywhere, part_before, part_behind}
@@ -8,22 +8,24 @@ use Rattle.merkle_tree_theory.specs.Stream.{page_digest}
 use Rattle.merkle_tree_theory.specs.Tree.{Tree, page, high, node, Held, nothing, below}
 use Rattle.merkle_tree_theory.specs.TreeOf.{gap_of, root_of, tree_of}
 use Rattle.merkle_tree_theory.specs.declared.page_format.PageFormat.TheVariants.{V2}
-use Rattle.merkle_tree_theory.proofs.TreeOf.{gap_of-canonical}
+use Rattle.merkle_tree_theory.proofs.TreeOf.{gap_of-canonical, gap_of-pairs}
 use Rattle.sqlite_value.specs.Order.{Row}
-use Rattle.store_tree.specs.Calls.{IsRootDigest}
+use Rattle.sqlite_trees.specs.Tree.{Trees}
+use Rattle.store_tree.specs.Calls.{CountsKeys, IsRootDigest}
 use Rattle.store_tree.specs.Cells.{bytes_order, AreUnder, KeyDigests, held_within}
 use Rattle.store_tree.specs.Filling.{FindsRoot}
 use Rattle.store_tree.specs.Outlines.{IsOutlineAt, IsOutlineOf, told_digest, told_items, told_node}
 use Rattle.store_tree.specs.Overs.{FindsOver}
-use Rattle.store_tree.specs.Pages.{TellsNodes, Tells, gap_between}
+use Rattle.store_tree.specs.Pages.{TellsNodes, Tells, gap_between, known_count}
 use Rattle.store_tree.specs.Rows.{bound_bytes}
 use Rattle.store_tree.specs.declared.cell.Known.{Known}
 use Rattle.store_tree.specs.declared.cell.Known.TheVariants.{Unknown, Nothing, Page as ThePage}
 use Rattle.store_tree.specs.declared.outline.Outline.{Outline}
 use Rattle.store_tree.specs.declared.over.PageOver.{PageOver}
 use Rattle.store_tree.specs.declared.page.Node.{Node}
+use Rattle.store_tree.specs.declared.table.TheConstants.{CELLS}
 use Rattle.store_tree.proofs.Overs.{ForTree}
-use Rattle.store_tree.proofs.Paging.{page_of_nodes, row_told}
+use Rattle.store_tree.proofs.Paging.{held_count, page_of_nodes, row_told}
 use Rattle.store_tree.proofs.Parts.{whole}
 
 -- ---- the root page
@@ -33,9 +35,9 @@ module _ (lev : List ℕ → ℕ) where
   root_item Unknown h gap told = absurd told
   root_item Nothing nothing gap told = refl
   root_item Nothing (below t) gap told = absurd (let never = told in cc)
-  root_item (ThePage digest) nothing gap told = absurd told
-  root_item (ThePage digest) (below (page l c (high h))) gap told = absurd gap.1
-  root_item (ThePage digest) (below (page l c (node h k d r))) gap told = ap (λ e. of_page everywhere e ∷ []) (sym told)
+  root_item (ThePage digest count) nothing gap told = absurd told
+  root_item (ThePage digest count) (below (page l c (high h))) gap told = absurd gap.1
+  root_item (ThePage digest count) (below (page l c (node h k d r))) gap told = ap (λ e. of_page everywhere e ∷ []) (sym told.0)
 
   all_under : ((key : List ℕ) → lev key < 256) → (ps : KeyDigests) → AreUnder lev 256 ps
   all_under low [] = tt
@@ -50,6 +52,16 @@ module _ (lev : List ℕ → ℕ) where
 pub root_told : (Holds : KeyDigests → Type 0) (old new : List Row) (k : Known) → FindsRoot Holds old new k → ForTree Holds old new (IsRootDigest (told_digest k))
 root_told Holds old new k finds lev m h held = let (now, told) = finds lev m h held in (now, root_is lev h.low m k told)
 
+-- ---- the number of keys
+
+-- what is known of the whole map is how many keys it has
+keys_counted : (lev : List ℕ → ℕ) → ((key : List ℕ) → lev key < 256) → (m : KeyDigests) (k : Known) → Tells k (held_within lev m everywhere) → known_count k ≡ length m
+keys_counted lev low m k told =
+    sym (held_count k (gap_of lev 256 m) (subst (λ ps. Tells k (gap_of lev 256 ps)) (whole m) told)) ∙ ap (length {A = List ℕ × List ℕ}) (gap_of-pairs lev 256 m (all_under lev low m))
+
+pub root_counted : (hold : Trees → KeyDigests → Type 0) (old new : Trees) (k : Known) → FindsRoot (hold old) (old CELLS) (new CELLS) k → CountsKeys hold old new (known_count k)
+root_counted hold old new k finds lev m h held = let (now, told) = finds lev m h held in (now, keys_counted lev h.low m k told)
+
 -- ---- the page over a gap
 
 abbrev digest_of_page : Tree (List ℕ) (List ℕ) → Option (List ℕ)
@@ -58,8 +70,8 @@ digest_of_page t = Some (page_digest V2 (λ bytes. bytes) t)
 held_told : (g : Gap (List ℕ)) (k : Known) (h : Held (List ℕ) (List ℕ)) → Tells k h → held_items digest_of_page g h ≡ page_items g (told_digest k)
 held_told g Unknown h told = absurd told
 held_told g Nothing h told = ap (held_items digest_of_page g) told
-held_told g (ThePage digest) nothing told = absurd told
-held_told g (ThePage digest) (below t) told = ap (λ d. of_page g d ∷ []) told
+held_told g (ThePage digest count) nothing told = absurd told
+held_told g (ThePage digest count) (below t) told = ap (λ d. of_page g d ∷ []) told.0
 
 module _ (lev : List ℕ → ℕ) (m : KeyDigests) (up : IsMap bytes_order m) (low : (key : List ℕ) → lev key < 256) (level : ℕ) (few : level < 256) where
   -- the items of a row of nodes in a gap, which may begin and end elsewhere than the gap of the page

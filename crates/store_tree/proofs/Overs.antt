@@ -164,11 +164,11 @@ module _ (Holds : KeyDigests → Type 0) (g : Gap (List ℕ)) (old new : List Ro
   pub no_page : FindsOver Holds g old new None → ForTree Holds old new (SaysPage g digest false)
   no_page is lev m h held = let (now, none) = is lev m h held in (now, over_none_says (tree_of lev m) none)
 
-  pub page_is : (o : PageOver) (d : List ℕ) (is : Bool) → o.level < 256 → known_of o.level o.page ≡ ThePage d → (is ≡ true → d ≡ digest) → (is ≡ false → d ≡ digest → ⊥)
+  pub page_is : (o : PageOver) (d : List ℕ) (n : ℕ) (is : Bool) → o.level < 256 → known_of o.level o.page ≡ ThePage d n → (is ≡ true → d ≡ digest) → (is ≡ false → d ≡ digest → ⊥)
       → FindsOver Holds g old new (Some o) → ForTree Holds old new (SaysPage g digest is)
-  page_is o d is few known same_is other_is over lev m h held =
+  page_is o d n is few known same_is other_is over lev m h held =
       let (now, (t, some, there, nodes)) = over lev m h held in
-      let told : page_digest V2 (λ bytes. bytes) t ≡ d = subst (λ k. Tells k (below t)) known (digest_told lev m o old h few t there nodes) in
+      let told : page_digest V2 (λ bytes. bytes) t ≡ d = (subst (λ k. Tells k (below t)) known (digest_told lev m o old h few t there nodes)).0 in
       (now, by is same_is other_is (tree_of lev m) t some told)
     where
       by : (is : Bool) → (is ≡ true → d ≡ digest) → (is ≡ false → d ≡ digest → ⊥) → (whole t : Tree (List ℕ) (List ℕ)) → page_over bytes_order g whole ≡ Some t
@@ -178,13 +178,13 @@ module _ (Holds : KeyDigests → Type 0) (g : Gap (List ℕ)) (old new : List Ro
           λ same. other_is refl (sym told ∙ same_some (ap (option_map (λ page. page_digest V2 (λ bytes. bytes) page)) (sym some) ∙ same))
 
   -- what stands in a gap with a page is a page
-  pub page_isn't : (o : PageOver) (k : Known) → o.level < 256 → known_of o.level o.page ≡ k → ((e : List ℕ) → k ≡ ThePage e → ⊥)
+  pub page_isn't : (o : PageOver) (k : Known) → o.level < 256 → known_of o.level o.page ≡ k → ((e : List ℕ) (n : ℕ) → k ≡ ThePage e n → ⊥)
       → FindsOver Holds g old new (Some o) → ForTree Holds old new (SaysPage g digest false)
   page_isn't o k few known never over lev m h held =
       let (now, (t, some, there, nodes)) = over lev m h held in
       absurd (by k t never (subst (λ k. Tells k (below t)) known (digest_told lev m o old h few t there nodes)))
     where
-      by : (k : Known) (t : Tree (List ℕ) (List ℕ)) → ((e : List ℕ) → k ≡ ThePage e → ⊥) → Tells k (below t) → ⊥
+      by : (k : Known) (t : Tree (List ℕ) (List ℕ)) → ((e : List ℕ) (n : ℕ) → k ≡ ThePage e n → ⊥) → Tells k (below t) → ⊥
       by Unknown t never told = told
       by Nothing t never told = let e = told in cc
-      by (ThePage e) t never told = never e refl
+      by (ThePage e n) t never told = never e n refl

@@ -1,17 +1,17 @@
 -- What stands in a gap is the page of the nodes that the map has there on the greatest level.
-use Rattle.std.proofs.Common.{◌≡◌, ◌<◌, ◌≤◌, ℕ, suc, Bool, true, false, ◌||◌, ◌==◌, List, [], ◌∷◌, ◌++◌, length, Option, Some, None, refl, sym, ap, subst, ◌∙◌, arith, string_bytes}
+use Rattle.std.proofs.Common.{◌≡◌, ◌<◌, ◌≤◌, ℕ, suc, Bool, true, false, ◌||◌, ◌==◌, List, [], ◌∷◌, ◌++◌, ◌+◌, length, length-append, Option, Some, None, refl, sym, ap, subst, ◌∙◌, arith, string_bytes}
 use Rattle.std.specs.Cmp.Lexicographic.{nat_list_cmp_total}
 use Rattle.key_order.specs.Map.{IsMap}
 use Rattle.key_order.proofs.ListParts.{each-append}
 use Rattle.merkle_digest.specs.SipHash.{siphash128, zero_key}
 use Rattle.merkle_tree_theory.specs.Gap.{part_before, part_behind, pairs_within}
-use Rattle.merkle_tree_theory.specs.Page.{row_nodes}
+use Rattle.merkle_tree_theory.specs.Page.{held_pairs, row_nodes, row_pairs}
 use Rattle.merkle_tree_theory.specs.Stream.{head_bytes, below_bytes, key_bytes, row_stream, held_stream, stream_of}
 use Rattle.merkle_tree_theory.specs.Tree.{page, Row, high, node, Held, nothing, below}
 use Rattle.merkle_tree_theory.specs.TreeOf.{any_at, row_of, gap_of}
 use Rattle.merkle_tree_theory.specs.declared.page_format.PageFormat.TheVariants.{V2}
 use Rattle.store_tree.specs.Cells.{bytes_order, KeyDigests, AreUnder, IsPageWith, held_within}
-use Rattle.store_tree.specs.Pages.{gap_between, Tells, TellsNodes, known_bytes, nodes_stream, digest_by_nodes, known_by, known_of}
+use Rattle.store_tree.specs.Pages.{gap_between, Tells, TellsNodes, known_bytes, known_count, nodes_count, nodes_stream, digest_by_nodes, known_by, known_of}
 use Rattle.store_tree.specs.declared.cell.Known.{Known}
 use Rattle.store_tree.specs.declared.cell.Known.TheVariants.{Unknown, Nothing, Page as ThePage}
 use Rattle.store_tree.specs.declared.page.Node.{Node}
@@ -36,6 +36,12 @@ any_middle lev l (x ∷ xs) p ys on = by (lev x.0 == l) (any_middle lev l xs p y
     by : (b : Bool) → any_at lev l (xs ++ p ∷ ys) ≡ true → b || any_at lev l (xs ++ p ∷ ys) ≡ true
     by true f = refl
     by false f = f
+
+pub held_count : (k : Known) (h : Held (List ℕ) (List ℕ)) → Tells k h → length (held_pairs h) ≡ known_count k
+held_count Unknown h t = absurd t
+held_count Nothing h t = ap (λ (g : Held (List ℕ) (List ℕ)). length (held_pairs g)) t
+held_count (ThePage digest count) nothing t = absurd t
+held_count (ThePage digest count) (below s) t = t.1
 
 module _ (lev : List ℕ → ℕ) (m : KeyDigests) (up : IsMap bytes_order m) (low : (key : List ℕ) → lev key < 256) (level : ℕ) (few : level < 256) where
   -- the row of such nodes
@@ -67,8 +73,8 @@ module _ (lev : List ℕ → ℕ) (m : KeyDigests) (up : IsMap bytes_order m) (l
   held_bytes : (k : Known) (h : Held (List ℕ) (List ℕ)) → Tells k h → held_stream V2 (λ bytes. bytes) h ≡ known_bytes k
   held_bytes Unknown h t = absurd t
   held_bytes Nothing h t = ap (held_stream V2 (λ bytes. bytes)) t
-  held_bytes (ThePage digest) nothing t = absurd t
-  held_bytes (ThePage digest) (below s) t = ap (below_bytes V2) t
+  held_bytes (ThePage digest count) nothing t = absurd t
+  held_bytes (ThePage digest count) (below s) t = ap (below_bytes V2) t.0
 
   row_bytes : (after before : Option (List ℕ)) (ns : List Node) (last : Known) → TellsNodes lev m level after before ns last
       → row_stream V2 (λ bytes. bytes) (row_told after before ns) ≡ nodes_stream ns last
@@ -80,6 +86,14 @@ module _ (lev : List ℕ → ℕ) (m : KeyDigests) (up : IsMap bytes_order m) (l
   row_count : (after before : Option (List ℕ)) (ns : List Node) → length (row_nodes (row_told after before ns)) ≡ length ns
   row_count after before [] = refl
   row_count after before (n ∷ ns) = ap suc (row_count (Some (string_bytes n.key)) before ns)
+
+  row_keys : (after before : Option (List ℕ)) (ns : List Node) (last : Known) → TellsNodes lev m level after before ns last → length (row_pairs (row_told after before ns)) ≡ nodes_count ns last
+  row_keys after before [] last (told, under) = held_count last (held_within lev m (gap_between after before)) told
+  row_keys after before (n ∷ ns) last ((told, under), has, on, rest) =
+      let key = string_bytes n.key in
+      let held = held_within lev m (gap_between after (Some key)) in
+      length-append (held_pairs held) ((key, n.digest) ∷ row_pairs (row_told (Some key) before ns))
+      ∙ (λ i. held_count n.before held told i + suc (row_keys (Some key) before ns last rest i))
 
   -- all keys of the gap are on the level or below it
   abbrev AreUpto : KeyDigests → Type 0
@@ -124,4 +138,5 @@ module _ (lev : List ℕ → ℕ) (m : KeyDigests) (up : IsMap bytes_order m) (l
           (λ i. head_bytes V2 level (row_count after before (n ∷ ns) i) ++ row_bytes after before (n ∷ ns) p.last are i) in
           let same : head_bytes V2 level (length (n ∷ ns)) ++ nodes_stream (n ∷ ns) p.last ≡ head_bytes V2 level (length p.nodes.items) ++ nodes_stream p.nodes.items p.last =
           ap (λ xs. head_bytes V2 level (length xs) ++ nodes_stream xs p.last) (sym some) in
-          subst (λ h. IsPageWith (digest_by_nodes level p) h) (sym whole) (ap (siphash128 zero_key) (stream ∙ same))
+          let keys : length (row_pairs row) ≡ nodes_count p.nodes.items p.last = row_keys after before (n ∷ ns) p.last are ∙ ap (λ xs. nodes_count xs p.last) (sym some) in
+          subst (λ h. IsPageWith (digest_by_nodes level p) (nodes_count p.nodes.items p.last) h) (sym whole) (ap (siphash128 zero_key) (stream ∙ same), keys)

@@ -16,7 +16,7 @@ use Rattle.sqlite_trees.specs.Tree.{IsIndex, insert_entry, remove_entry}
 use Rattle.sqlite_trees.proofs.ListLemmas.{all_weaker, ascending-filter, filter_all}
 use Rattle.sqlite_trees.proofs.TreeLemmas.{IsIndex-insert_entry}
 use Rattle.store_tree.specs.Cells.{bytes_order}
-use Rattle.store_tree.specs.Rows.{cell_row, front_value, known_value, is_level, rows_on}
+use Rattle.store_tree.specs.Rows.{cell_row, count_value, front_value, known_value, is_level, rows_on}
 use Rattle.store_tree.specs.declared.cell.Known.{Known}
 use Rattle.store_tree.proofs.Fronts.{Front, FrontBelow}
 
@@ -34,7 +34,7 @@ fronts_order (Some a) (Some b) h = value_cmp-Text a b ∙ is_less (bytes_order a
 -- rows of one level are in the order of their fronts
 pub rows_order : (l : ℕ) (f g : Front) (k j : Known) → FrontBelow f g → entry_cmp plain (cell_row l f k) (cell_row l g j) ≡ Less
 rows_order l f g k j h =
-    columns (Int (pos l)) (front_value f) (Int (pos l)) (front_value g) (known_value k ∷ []) (known_value j ∷ [])
+    columns (Int (pos l)) (front_value f) (Int (pos l)) (front_value g) (known_value k ∷ count_value k ∷ []) (known_value j ∷ count_value j ∷ [])
     ∙ rw (tied_itself value_cmp_total (Int (pos l)), fronts_order f g h) refl
 
 pub rows_turned : (l : ℕ) (f g : Front) (k j : Known) → FrontBelow f g → entry_cmp plain (cell_row l g j) (cell_row l f k) ≡ Greater
@@ -60,7 +60,8 @@ not_other l j f k apart = by (which (is_level j (cell_row l f k)))
 -- a row that is tied with another is on its level
 ties_level : (l : ℕ) (f : Front) (k : Known) (e : Row) → entry_cmp plain e (cell_row l f k) ≡ Equal → is_level l e ≡ true
 ties_level l f k [] h = absurd (let never = h in cc)
-ties_level l f k (v ∷ e) h = ap is_eq (then_tied (value_cmp v (Int (pos l))) (entry_cmp plain e (front_value f ∷ known_value k ∷ [])) (subst (λ o. o ≡ Equal) (rw first_key-plain refl) h)).0
+ties_level l f k (v ∷ e) h =
+    ap is_eq (then_tied (value_cmp v (Int (pos l))) (entry_cmp plain e (front_value f ∷ known_value k ∷ count_value k ∷ [])) (subst (λ o. o ≡ Equal) (rw first_key-plain refl) h)).0
 
 -- ---- an entry among others
 

@@ -20,7 +20,7 @@ use Rattle.sqlite_value.specs.Keys.{plain}
 use Rattle.sqlite_trees.specs.Tree.{IsAscending, IsIndex, insert_entry, remove_entry}
 use Rattle.sqlite_trees.proofs.ListLemmas.{all_weaker, filter-map}
 use Rattle.store_tree.specs.Cells.{bytes_order, KeyDigests, AreUnder, fronts_of, IsPageWith, IsBoundAt, IsGapOf, Knows, HoldsLevel, pairs_from}
-use Rattle.store_tree.specs.Rows.{bound_bytes, cell_row, front_value, known_value, row_of_cell, is_level, is_upto, rows_on, rows_upto, with_known}
+use Rattle.store_tree.specs.Rows.{bound_bytes, cell_row, count_value, front_value, known_value, row_of_cell, is_level, is_upto, rows_on, rows_upto, with_known}
 use Rattle.store_tree.specs.Tables.{GivesLast}
 use Rattle.store_tree.specs.Touches.{Touches, cleared, cleared_of, is_front, split}
 use Rattle.store_tree.specs.declared.cell.Cell.{Cell}
@@ -60,7 +60,7 @@ module _ (lev : List ℕ → ℕ) (m : KeyDigests) (l : ℕ) (key d : List ℕ) 
   pub known_stays : (k : Known) (front : Front) → ((gap : Gap (List ℕ)) → IsGapOf lev m l front gap → is_in_gap bytes_order key gap ≡ false) → Knows lev m l k front → Knows lev with_set l k front
   known_stays Unknown front out h = tt
   known_stays Nothing front out (gap, is, none) = (gap, gap_stays front gap (out gap is) is, ap (gap_of lev 256) (pairs_same gap (out gap is)) ∙ none)
-  known_stays (Page digest) front out (gap, is, it) = (gap, gap_stays front gap (out gap is) is, subst (λ ps. IsPageWith digest (gap_of lev 256 ps)) (sym (pairs_same gap (out gap is))) it)
+  known_stays (Page digest count) front out (gap, is, it) = (gap, gap_stays front gap (out gap is) is, subst (λ ps. IsPageWith digest count (gap_of lev 256 ps)) (sym (pairs_same gap (out gap is))) it)
 
   not_in : (gap : Gap (List ℕ)) → (IsInGap bytes_order key gap → ⊥) → is_in_gap bytes_order key gap ≡ false
   not_in gap f = by (which (is_in_gap bytes_order key gap))
@@ -209,7 +209,8 @@ module _ (lev : List ℕ → ℕ) (m : KeyDigests) (up : IsMap bytes_order m) (l
         known_is =
             let is : cell_row l w.f (h.known w.f) ≡ cell_row c.level (bound_bytes c.front) c.known = w.row_is in
             let values : known_value (h.known w.f) ≡ known_value c.known = cc in
-            same_known (h.known w.f) c.known values
+            let counts : count_value (h.known w.f) ≡ count_value c.known = cc in
+            same_known (h.known w.f) c.known values counts
 
         made : insert_entry plain (cell_row l w.f Unknown) (remove_entry plain (r w.f) rows) ≡ with_known c Unknown rows
         made = λ i. insert_entry plain (cell_row (sym level i) (sym front_is i) Unknown) (remove_entry plain (w.row_is i) rows)
@@ -217,7 +218,7 @@ module _ (lev : List ℕ → ℕ) (m : KeyDigests) (up : IsMap bytes_order m) (l
         by : (k : Known) → c.known ≡ k → Cleared (cleared_of k c rows)
         by Unknown is = record { here = rows_are ∙ ap (λ k. map (row_at l kept) w.bs ++ cell_row l w.f k ∷ map (row_at l kept) w.back) (known_is ∙ is); in_order = sorted; others = λ j apart. refl }
         by Nothing is = subst Cleared made cleared_row
-        by (Page digest) is = subst Cleared made cleared_row
+        by (Page digest count) is = subst Cleared made cleared_row
 
     -- ---- the fronts after the write
 

@@ -1,5 +1,5 @@
 -- What calls make of a table of cells, and what they tell of the tree, of whatever map the table has the gaps.
-use Rattle.std.specs.Prelude.{◌≡◌, ◌≢◌, ◌<◌, ℕ, Bool, true, false, List, [], Option, Some}
+use Rattle.std.specs.Prelude.{◌≡◌, ◌≢◌, ◌<◌, ℕ, Bool, true, false, List, [], length, Option, Some}
 use Rattle.std.specs.Option.{option_map}
 use Rattle.key_order.specs.Map.{set}
 use Rattle.merkle_tree_theory.specs.Gap.{Gap, everywhere}
@@ -31,6 +31,10 @@ FindsInTree hold Is old new found =
 -- this is the digest of the root page of a tree, or none where the tree has no node
 abbrev pub IsRootDigest : Option (List ℕ) → Tree (List ℕ) (List ℕ) → Type 0
 IsRootDigest digest tree = page_items everywhere digest ≡ whole_item V2 (λ bytes. bytes) tree
+
+-- of whatever map that is held the rows are the gaps, they stay those, and it has this many keys
+abbrev pub CountsKeys : (Trees → KeyDigests → Type 0) → Trees → Trees → ℕ → Type 0
+CountsKeys hold old new count = (lev : List ℕ → ℕ) (m : KeyDigests) → HoldsCells lev m (old CELLS) → hold old m → HoldsCells lev m (new CELLS) × (count ≡ length m)
 
 -- the digest of the page over a gap, where there is one
 abbrev pub digest_over : Gap (List ℕ) → Tree (List ℕ) (List ℕ) → Option (List ℕ)

@@ -1,5 +1,5 @@
--- A table of cells that has the gaps of a map's tree, and some of the digests of its pages.
-use Rattle.std.specs.Prelude.{◌≡◌, ◌⊎◌, ℕ, ◌≤◌, ◌<◌, nat_le, List, [], ◌∷◌, map, Option, Some, None, ⊤}
+-- A table of cells that has the gaps of a map's tree, and of some of its pages the digests and how many keys are in them.
+use Rattle.std.specs.Prelude.{◌≡◌, ◌⊎◌, ℕ, ◌≤◌, ◌<◌, nat_le, List, [], ◌∷◌, length, map, Option, Some, None, ⊤}
 use Rattle.std.specs.List.{AllByRecursion}
 use Rattle.std.specs.Cmp.Lexicographic.{slice_cmp}
 use Rattle.std.specs.Ordering.{nat_cmp}
@@ -7,6 +7,7 @@ use Rattle.std.specs.declared.cmp.Ordering.{Ordering}
 use Rattle.key_order.specs.Order.{Below}
 use Rattle.key_order.specs.Map.{IsMap, rows_at}
 use Rattle.merkle_tree_theory.specs.Gap.{Gap, pairs_within}
+use Rattle.merkle_tree_theory.specs.Page.{pairs}
 use Rattle.merkle_tree_theory.specs.Stream.{page_digest}
 use Rattle.merkle_tree_theory.specs.Tree.{Held, nothing, below}
 use Rattle.merkle_tree_theory.specs.TreeOf.{gap_of}
@@ -43,10 +44,10 @@ IsProper front None = ⊤
 IsProper None (Some b) = ⊤
 IsProper (Some a) (Some b) = Below bytes_order a b
 
--- what stands in a gap is a page with this digest
-abbrev pub IsPageWith : List ℕ → Held (List ℕ) (List ℕ) → Type 0
-IsPageWith digest nothing = ⊥
-IsPageWith digest (below t) = page_digest V2 (λ bytes. bytes) t ≡ digest
+-- what stands in a gap is a page with this digest, and it and the pages below it have this many keys
+abbrev pub IsPageWith : List ℕ → ℕ → Held (List ℕ) (List ℕ) → Type 0
+IsPageWith digest count nothing = ⊥
+IsPageWith digest count (below t) = (page_digest V2 (λ bytes. bytes) t ≡ digest) × (length (pairs t) ≡ count)
 
 module _ (lev : List ℕ → ℕ) (m : KeyDigests) where
   -- what the map has in a gap, as a page
@@ -76,7 +77,7 @@ module _ (lev : List ℕ → ℕ) (m : KeyDigests) where
     abbrev pub Knows : Known → Option (List ℕ) → Type 0
     Knows Unknown front = ⊤
     Knows Nothing front = (gap : Gap (List ℕ)) × IsGapOf front gap × (held_within gap ≡ nothing)
-    Knows (Page digest) front = (gap : Gap (List ℕ)) × IsGapOf front gap × IsPageWith digest (held_within gap)
+    Knows (Page digest count) front = (gap : Gap (List ℕ)) × IsGapOf front gap × IsPageWith digest count (held_within gap)
 
     -- the level has a row for each front of the pairs on it or above it, and what is known of each gap is true
     pub record HoldsLevel (rows : List Row) : Type 0 where

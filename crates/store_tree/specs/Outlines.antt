@@ -16,7 +16,7 @@ use Rattle.store_tree.specs.declared.page.Page.{Page}
 abbrev pub told_digest : Known → Option (List ℕ)
 told_digest Unknown = None
 told_digest Nothing = None
-told_digest (ThePage digest) = Some digest
+told_digest (ThePage digest count) = Some digest
 
 -- a node, with the digest of the page before it
 abbrev pub told_node : Node → ToldNode

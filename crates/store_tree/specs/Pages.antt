@@ -1,5 +1,5 @@
 -- The nodes of a level in a gap of a map's tree, and what stands between them.
-use Rattle.std.specs.Prelude.{◌≡◌, ℕ, List, [], ◌∷◌, ◌++◌, length, Option, Some, string_bytes}
+use Rattle.std.specs.Prelude.{◌≡◌, ◌+◌, ℕ, suc, List, [], ◌∷◌, ◌++◌, length, Option, Some, string_bytes}
 use Rattle.key_order.specs.Text.{Text}
 use Rattle.merkle_digest.specs.SipHash.{siphash128, zero_key}
 use Rattle.merkle_tree_theory.specs.Gap.{Gap, pairs_within}
@@ -25,7 +25,7 @@ text_gap after before = gap_between (bound_bytes after) (bound_bytes before)
 abbrev pub Tells : Known → Held (List ℕ) (List ℕ) → Type 0
 Tells Unknown held = ⊥
 Tells Nothing held = held ≡ nothing
-Tells (ThePage digest) held = IsPageWith digest held
+Tells (ThePage digest count) held = IsPageWith digest count held
 
 -- the list of pairs has the pair
 abbrev pub HasPair : KeyDigests → List ℕ × List ℕ → Type 0
@@ -47,7 +47,7 @@ module _ (lev : List ℕ → ℕ) (m : KeyDigests) (level : ℕ) where
 abbrev pub known_bytes : Known → List ℕ
 known_bytes Unknown = []
 known_bytes Nothing = none_bytes V2
-known_bytes (ThePage digest) = below_bytes V2 digest
+known_bytes (ThePage digest count) = below_bytes V2 digest
 
 -- what stands for a node and for what is before it
 abbrev pub node_stream : Node → List ℕ
@@ -62,10 +62,21 @@ nodes_stream (n ∷ ns) last = known_bytes n.before ++ key_bytes V2 (string_byte
 abbrev pub digest_by_nodes : ℕ → Page → List ℕ
 digest_by_nodes level page = siphash128 zero_key (head_bytes V2 level (length page.nodes.items) ++ nodes_stream page.nodes.items page.last)
 
+-- how many keys are known to be in a gap
+abbrev pub known_count : Known → ℕ
+known_count Unknown = 0
+known_count Nothing = 0
+known_count (ThePage digest count) = count
+
+-- how many keys nodes and the pages around them have
+abbrev pub nodes_count : List Node → Known → ℕ
+nodes_count [] last = known_count last
+nodes_count (n ∷ ns) last = known_count n.before + suc (nodes_count ns last)
+
 -- what is known of a gap in which these nodes stand, and those of a page are these
 abbrev pub known_by : ℕ → Page → List Node → Known
 known_by level page [] = page.last
-known_by level page (n ∷ ns) = ThePage (digest_by_nodes level page)
+known_by level page (n ∷ ns) = ThePage (digest_by_nodes level page) (nodes_count page.nodes.items page.last)
 
 abbrev pub known_of : ℕ → Page → Known
 known_of level page = known_by level page page.nodes.items

@@ -22,11 +22,17 @@ front_value (Some key) = Words key
 abbrev pub known_value : Known → Value
 known_value Unknown = Null
 known_value Nothing = Int (pos 0)
-known_value (Page digest) = Blob digest
+known_value (Page digest count) = Blob digest
 
--- the row of a cell: its level, the key above which its gap begins, and what is known of the gap
+-- NULL where nothing is known, and else how many keys there are
+abbrev pub count_value : Known → Value
+count_value Unknown = Null
+count_value Nothing = Int (pos 0)
+count_value (Page digest count) = Int (pos count)
+
+-- the row of a cell: its level, the key above which its gap begins, what is known of the gap, and how many keys are known to be there
 abbrev pub cell_row : ℕ → Option (List ℕ) → Known → Row
-cell_row level front known = Int (pos level) ∷ front_value front ∷ known_value known ∷ []
+cell_row level front known = Int (pos level) ∷ front_value front ∷ known_value known ∷ count_value known ∷ []
 
 -- the bytes of a bound, where there is one
 abbrev pub bound_bytes : Option (String Global) → Option (List ℕ)

@@ -16,7 +16,7 @@ is_front key (Some front) = bytes_eq front key
 abbrev pub cleared_of : Known → Cell → List Row → List Row
 cleared_of Unknown c rows = rows
 cleared_of Nothing c rows = with_known c Unknown rows
-cleared_of (Page digest) c rows = with_known c Unknown rows
+cleared_of (Page digest count) c rows = with_known c Unknown rows
 
 abbrev pub cleared : Cell → List Row → List Row
 cleared c = cleared_of c.known c

@@ -1,9 +1,9 @@
 //! Cells as rows of the table.
 ghost use Rattle.std.specs.Prelude.{◌≡◌, pos, IfOk, OnOk};
 ghost use Rattle.sqlite_value.specs.Value.{owned};
-ghost use Rattle.sqlite_value.specs.declared.value.Value.TheVariants.{Int};
+ghost use Rattle.sqlite_value.specs.declared.value.Value.TheVariants.{Blob, Int};
 ghost use Rattle.store_tree.specs.Outlines.{told_digest};
-ghost use Rattle.store_tree.specs.Rows.{bound_bytes, cell_row, front_value, known_value, row_of_cell};
+ghost use Rattle.store_tree.specs.Rows.{bound_bytes, cell_row, count_value, front_value, known_value, row_of_cell};
 
 use crate::fault::TreeFault;
 use crate::pairs::DIGEST_LEN;
@@ -19,8 +19,13 @@ pub enum Known {
     Unknown,
     /// There are none.
     Nothing,
-    /// The digest of the page that they stand in.
-    Page([u8; DIGEST_LEN]),
+    /// They stand in a page.
+    Page {
+        /// Its digest.
+        digest: [u8; DIGEST_LEN],
+        /// How many keys it has, and the pages below it.
+        count: u64,
+    },
 }
 
 /// A gap of a level, from a key on that level or above it to the next one.
@@ -41,7 +46,7 @@ pub(crate) fn digest_in(known: &Known) -> Option<PageDigest>
     match known {
         Known::Unknown => None,
         Known::Nothing => None,
-        Known::Page(digest) => Some(PageDigest::new(*digest)),
+        Known::Page { digest, .. } => Some(PageDigest::new(*digest)),
     }
 }
 
@@ -73,19 +78,29 @@ fn front_in(alloc: Global, value: ValueRef<'_>) -> Result<Option<String>, TreeFa
     }
 }
 
-/// What is known of a gap.
-fn known_in(value: ValueRef<'_>) -> Result<Known, TreeFault>
-    ensures { IfOk result (λ known. owned value.entry ≡ known_value known) }
+/// A page of which the digest and the number of keys are known.
+fn page_in(digest: &[u8], count: i64) -> Result<Known, TreeFault>
+    ensures { IfOk result (λ known. (known_value known ≡ Blob digest.now) × (count_value known ≡ Int count)) }
 {
-    let bytes = match value {
-        ValueRef::Null => return Ok(Known::Unknown),
-        ValueRef::Int(0) => return Ok(Known::Nothing),
-        ValueRef::Blob(bytes) => bytes,
-        _ => return Err(TreeFault::Malformed),
+    let Ok(digest) = <[u8; DIGEST_LEN]>::try_from(digest) else {
+        return Err(TreeFault::Malformed);
     };
-    match <[u8; DIGEST_LEN]>::try_from(bytes) {
-        Ok(digest) => Ok(Known::Page(digest)),
-        Err(_) => Err(TreeFault::Malformed),
+    let Ok(count) = u64::try_from(count) else {
+        return Err(TreeFault::Malformed);
+    };
+    Ok(Known::Page { digest, count })
+}
+
+/// What is known of a gap.
+fn known_in(known: ValueRef<'_>, count: ValueRef<'_>) -> Result<Known, TreeFault>
+    ensures known { IfOk result (λ read. owned known.entry ≡ known_value read) }
+    ensures count { IfOk result (λ read. owned count.entry ≡ count_value read) }
+{
+    match (known, count) {
+        (ValueRef::Null, ValueRef::Null) => Ok(Known::Unknown),
+        (ValueRef::Int(0), ValueRef::Int(0)) => Ok(Known::Nothing),
+        (ValueRef::Blob(digest), ValueRef::Int(count)) => page_in(digest, count),
+        _ => Err(TreeFault::Malformed),
     }
 }
 
@@ -93,12 +108,12 @@ fn known_in(value: ValueRef<'_>) -> Result<Known, TreeFault>
 pub(crate) fn cell_of(alloc: Global, row: &Row) -> Result<Cell, TreeFault>
     ensures { IfOk result (λ cell. row.now ≡ row_of_cell cell) }
 {
-    if row.len() != 3 {
+    if row.len() != 4 {
         return Err(TreeFault::Malformed);
     }
     let level = level_in(row.get(0))?;
     let front = front_in(alloc, row.get(1))?;
-    let known = known_in(row.get(2))?;
+    let known = known_in(row.get(2), row.get(3))?;
     Ok(Cell {
         level,
         front,
@@ -123,7 +138,21 @@ fn value_of_known(known: &Known) -> ValueRef<'_>
     match known {
         Known::Unknown => ValueRef::Null,
         Known::Nothing => ValueRef::Int(0),
-        Known::Page(digest) => ValueRef::Blob(digest),
+        Known::Page { digest, .. } => ValueRef::Blob(digest),
+    }
+}
+
+/// The value of how many keys are known to be in a gap.
+fn value_of_count(known: &Known) -> Result<ValueRef<'_>, TreeFault>
+    ensures { IfOk result (λ value. owned value ≡ count_value known.now) }
+{
+    match known {
+        Known::Unknown => Ok(ValueRef::Null),
+        Known::Nothing => Ok(ValueRef::Int(0)),
+        Known::Page { count, .. } => match i64::try_from(*count) {
+            Ok(number) => Ok(ValueRef::Int(number)),
+            Err(_) => Err(TreeFault::Malformed),
+        },
     }
 }
 
@@ -140,5 +169,6 @@ pub(crate) fn fill(
     row.push(ValueRef::Int(i64::from(level)))?;
     row.push(value_of_front(front))?;
     row.push(value_of_known(known))?;
+    row.push(value_of_count(known)?)?;
     Ok(())
 }

@@ -12,7 +12,8 @@ pub enum TreeFault {
     Database(StoreError),
     /// Out of memory.
     Memory,
-    /// A row of the table is no cell, one of another table isn't what stands there, or the rows are the gaps of no map, or of another one than that which is kept.
+    /// A row of the table is no cell, one of another table isn't what stands there, or the rows are the gaps of no map, of another one than that which is kept, or
+    /// of one with 2^63 keys or more.
     Malformed,
 }
 

@@ -26,7 +26,7 @@ fn all_known(known: &Known) -> Option<Known>
     match known {
         Known::Unknown => None,
         Known::Nothing => Some(Known::Nothing),
-        Known::Page(digest) => Some(Known::Page(*digest)),
+        Known::Page { .. } => Some(*known),
     }
 }
 
@@ -104,7 +104,7 @@ fn fill_cell<S: Store, P: Pairs<S>>(
         return Err(TreeFault::Malformed);
     };
     let page = page_below(alloc, trees, pairs, below, &cell.front, before)?;
-    let known = known_of(below, &page);
+    let known = known_of(below, &page)?;
     keep(alloc, trees, level, &cell.front, before, &known)?;
     Ok(known)
 }

@@ -127,7 +127,8 @@ pub fn is_page<S: Store, P: Pairs<S>>(
     let Some(over) = page_over(alloc, trees, pairs, after, before)? else {
         return Ok(false);
     };
-    let Known::Page(found) = known_of(over.level, &over.page) else {
+    let known = known_of(over.level, &over.page)?;
+    let Known::Page { digest: found, .. } = known else {
         return Ok(false);
     };
     Ok(found == *digest.as_bytes())

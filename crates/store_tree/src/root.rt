@@ -1,10 +1,11 @@
-//! The digest of the root page.
+//! The digest of the root page, and how many keys there are.
 ghost use Rattle.store_file.specs.Logs.{Makes, MakesAndFinds};
 ghost use Rattle.store_file.specs.Transactions.{CommitsNothing};
-ghost use Rattle.store_tree.specs.Calls.{FindsInTree, IsRootDigest};
+ghost use Rattle.store_tree.specs.Calls.{CountsKeys, FindsInTree, IsRootDigest};
 ghost use Rattle.store_tree.specs.Tables.{HasTable, KeepsOthers};
 
 use crate::cell::digest_in;
+use crate::digest::count_in;
 use crate::fault::TreeFault;
 use crate::fill::whole;
 use crate::pairs::Pairs;
@@ -33,4 +34,26 @@ pub fn root_digest<S: Store, P: Pairs<S>>(
 {
     let known = whole(alloc, trees, pairs)?;
     Ok(digest_in(&known))
+}
+
+/// How many keys the map has.
+///
+/// Where all is known it reads two rows. What isn't known is found out and noted, as by [`root_digest`].
+///
+/// # Errors
+///
+/// Those of [`root_digest`].
+pub fn count_keys<S: Store, P: Pairs<S>>(
+    alloc: Global,
+    trees: &mut S,
+    pairs: &P,
+) -> Result<u64, TreeFault>
+    requires table { HasTable S.Store trees.old }
+    // Of whatever map the rows are the gaps, they stay those, and it has this many keys.
+    ensures count { MakesAndFinds S.Store trees.old trees.new result (CountsKeys (P.hold pairs.now)) }
+    ensures others { Makes S.Store trees.old trees.new result KeepsOthers }
+    ensures uncommitted { CommitsNothing S.Store trees.old trees.new }
+{
+    let known = whole(alloc, trees, pairs)?;
+    Ok(count_in(&known))
 }

@@ -69,7 +69,7 @@ fn clear<S: Store>(alloc: Global, trees: &mut S, cell: &Cell) -> Result<(), Tree
     match cell.known {
         Known::Unknown => Ok(()),
         Known::Nothing => note(alloc, trees, cell, &Known::Unknown),
-        Known::Page(_) => note(alloc, trees, cell, &Known::Unknown),
+        Known::Page { .. } => note(alloc, trees, cell, &Known::Unknown),
     }
 }
 

@@ -37,11 +37,11 @@ fill_cell-returns-clause-filled g t c clean =
     let table : HasCells (s.view mid) = ap (λ shape. shape CELLS) c.page_below.ensures.uncommitted.schema.shape ∙ c.requires.table first in
     let up : IsIndex plain (trees_of s mid CELLS) = subst (λ shape. IsShaped shape (trees_of s mid CELLS)) table (g.met.S.Store.ordered mid sound CELLS) in
     let level : suc below ≡ c.args.level = search rules in
-    let kept : Keeps (suc below) front before c.known_of-known.result (trees_of s mid CELLS) new =
-    subst (λ l. Keeps l front before c.known_of-known.result (trees_of s mid CELLS) new) (sym level) (c.in_ok-keep.ensures.kept clean) in
-    subst (λ l. FillsCell Holds old new l c.args.cell.now before c.known_of-known.result) level
-    (cell_filled Holds old (trees_of s mid CELLS) new below c.args.cell.now before c.in_ok-page.page c.known_of-known.result up (search rules)
-    (c.in_ok-page.ensures.filled later) c.known_of-known.ensures kept)
+    let kept : Keeps (suc below) front before c.in_ok-known.known (trees_of s mid CELLS) new =
+    subst (λ l. Keeps l front before c.in_ok-known.known (trees_of s mid CELLS) new) (sym level) (c.in_ok-keep.ensures.kept clean) in
+    subst (λ l. FillsCell Holds old new l c.args.cell.now before c.in_ok-known.known) level
+    (cell_filled Holds old (trees_of s mid CELLS) new below c.args.cell.now before c.in_ok-page.page c.in_ok-known.known up (search rules)
+    (c.in_ok-page.ensures.filled later) c.in_ok-known.ensures kept)
 
 pub nodes_of-cells-init : goal.nodes_of-cells-init
 nodes_of-cells-init g t c =

@@ -20,8 +20,8 @@ returns-in_default-clause-page g c clean =
     no_page Holds gap (trees_of s start CELLS) (trees_of s new CELLS) c.args.digest.now
     (subst (FindsOver Holds gap (trees_of s start CELLS) (trees_of s new CELLS)) none (c.in_ok-over.ensures.over clean))
 
-pub returns-in_default-known_of : goal.returns-in_default-known_of
-returns-in_default-known_of g c =
+pub returns-in_default-known : goal.returns-in_default-known
+returns-in_default-known g c =
     let s = g.S.Store in
     let start = c.args.trees.now in
     let new = c.page_over.new.trees in
@@ -29,8 +29,8 @@ returns-in_default-known_of g c =
     let gap = gap_between (bound_bytes c.args.after.now) (bound_bytes c.args.before.now) in
     let over = c.in-Some.over in
     record {
-      page = λ clean. page_isn't Holds gap (trees_of s start CELLS) (trees_of s new CELLS) c.args.digest.now over c.known_of.result (search rules) (sym c.known_of.ensures)
-          (λ e is. c.in_default-known_of.not-Page e is)
+      page = λ clean. page_isn't Holds gap (trees_of s start CELLS) (trees_of s new CELLS) c.args.digest.now over c.in_ok-known.known (search rules) (sym c.in_ok-known.ensures)
+          (λ e n is. c.in_default-known.not-Page e n is)
           (subst (FindsOver Holds gap (trees_of s start CELLS) (trees_of s new CELLS)) c.in-Some.is (c.in_ok-over.ensures.over clean));
       others = c.in_ok-over.ensures.others;
       uncommitted = c.page_over.ensures.uncommitted;
@@ -44,6 +44,6 @@ returns-clause-page g c clean =
     let Holds : KeyDigests → Type 0 = g.P.Pairs.hold c.args.pairs.now (trees_of s start) in
     let gap = gap_between (bound_bytes c.args.after.now) (bound_bytes c.args.before.now) in
     let over = c.in-Some.over in
-    let known : known_of over.level over.page ≡ ThePage c.in-Page.found = sym c.known_of.ensures ∙ c.in-Page.is in
-    page_is Holds gap (trees_of s start CELLS) (trees_of s new CELLS) c.args.digest.now over c.in-Page.found c.eq.result (search rules) known (λ e. search rules) (λ e. search rules)
+    let known : known_of over.level over.page ≡ ThePage c.in-Page.found c.in-Page.count = sym c.in_ok-known.ensures ∙ c.in-Page.is in
+    page_is Holds gap (trees_of s start CELLS) (trees_of s new CELLS) c.args.digest.now over c.in-Page.found c.in-Page.count c.eq.result (search rules) known (λ e. search rules) (λ e. search rules)
     (subst (FindsOver Holds gap (trees_of s start CELLS) (trees_of s new CELLS)) c.in-Some.is (c.in_ok-over.ensures.over clean))
