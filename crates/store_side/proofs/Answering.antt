@@ -1,5 +1,5 @@
 -- What a store's file tells a peer, by its rows.
-use Rattle.std.proofs.Common.{◌≡◌, ℕ, ◌+◌, suc, Bool, true, false, cond, ◌&&◌, nat_eq, List, [], ◌∷◌, ◌++◌, length, map, Option, Some, None, string_bytes, refl, sym, ap, ap₂, subst, ◌∙◌}
+use Rattle.std.proofs.Common.{◌≡◌, ℕ, ◌+◌, Bool, true, false, cond, ◌&&◌, nat_eq, List, [], ◌∷◌, ◌++◌, map, Option, Some, None, string_bytes, refl, sym, ap, ap₂, subst, ◌∙◌}
 use Rattle.std.specs.Cmp.Lexicographic.{pointwise, same_text}
 use Rattle.std.specs.Global.{Vec}
 use Rattle.std.specs.Option.{option_eq}
@@ -126,12 +126,6 @@ same_rows [] (y ∷ ys) same = absurd same
 same_rows (x ∷ xs) [] same = absurd same
 same_rows (x ∷ xs) (y ∷ ys) same = λ i. (string_encoding (one_text x.0 y.0 same.0 i), same_encoding x.1 y.1 same.1 i) ∷ same_rows xs ys same.2 i
 
-same_count : (xs ys : List (Text × Register)) → SameMap text_order is_same xs ys → length xs ≡ length ys
-same_count [] [] same = refl
-same_count [] (y ∷ ys) same = absurd same
-same_count (x ∷ xs) [] same = absurd same
-same_count (x ∷ xs) (y ∷ ys) same = ap suc (same_count xs ys same.2)
-
 none_same : SameValue is_same None None
 none_same = tt
 
@@ -156,7 +150,3 @@ rows_told rows gap found are = same_rows (pairs_within text_order (owned_gap gap
         by true within = subst (λ b. SameValue is_same (cond b (get text_order found.items k) None) (cond b (get text_order rows k) None)) (sym within)
             (are.latest k (sym (in_gap gap.after gap.before k) ∙ within))
         by false out = subst (λ b. SameValue is_same (cond b (get text_order found.items k) None) (cond b (get text_order rows k) None)) (sym out) none_same
-
--- where all rows were found, there are as many as the rows are
-pub rows_counted : (rows : TextRows) (found : Vec (Text × Register)) → AreRowsBetween None None rows found → length found.items ≡ length rows
-rows_counted rows found are = same_count found.items rows (same_by_get text_order string_cmp_total is_same found.items rows are.ascending are.kept (λ k. are.latest k refl))

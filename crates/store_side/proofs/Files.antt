@@ -1,5 +1,7 @@
 -- What calls leave of a store's file that has the tree of its latest registers.
-use Rattle.std.proofs.Common.{◌≡◌, ℕ, Bool, true, false, List, None, option_map, string_bytes, Result, Ok, Err, OnOk, OnErr, IfOk, IsTrue, refl, sym, ap, subst, ◌∙◌, true≢false, arith}
+use Rattle.std.specs.Prelude.{⊤}
+use Rattle.std.proofs.Common.{◌≡◌, ℕ, Bool, true, false, List, length, None, option_map, string_bytes, Result, Ok, Err, OnOk, OnErr, IfOk, IsTrue, refl, sym, ap, subst, ◌∙◌, true≢false, arith}
+use Rattle.std.proofs.lemmas.List.{length-map}
 use Rattle.std.specs.List.{last_or}
 use Rattle.sqlite_value.specs.Order.{Row}
 use Rattle.sqlite_trees.specs.Tree.{Trees}
@@ -10,13 +12,14 @@ use Rattle.store_file.specs.Latest.{rows_of}
 use Rattle.store_file.specs.Logs.{IsClean, IsOpen, trees_of}
 use Rattle.store_file.specs.Transactions.{CommitsNothing, StaysQuiet}
 use Rattle.store_file.specs.Walks.{StaysBut}
-use Rattle.store_tree.specs.Calls.{FindsInTree}
+use Rattle.store_tree.specs.Calls.{CountsKeys, FindsInTree}
+use Rattle.store_tree.specs.Maps.{bytes_pair}
 use Rattle.store_tree.specs.Tables.{KeepsOthers}
 use Rattle.store_tree.specs.Texts.{bytes_map}
 use Rattle.store_tree.specs.declared.table.TheConstants.{CELLS}
 use Rattle.merkle_tree_theory.specs.Tree.{Tree}
 use Rattle.merkle_tree_theory.specs.TreeOf.{tree_of}
-use Rattle.store_rows.specs.Digests.{AreLatestRows, HoldsDigests, TextDigests, TextRows, digest_rows, key_level}
+use Rattle.store_rows.specs.Digests.{AreLatestRows, HoldsDigests, TextDigests, TextRows, digest_row, digest_rows, key_level}
 use Rattle.store_side.specs.FileTrees.{HasTreeOf, IsFileOf}
 use Rattle.store_rows.proofs.Holding.{latest_digests}
 
@@ -142,3 +145,19 @@ pub search_stays : {S A E : Type 0} (g : Ghosts S) (old mid : S) (done : Result 
     → (rows : TextRows) → OnOk done (IsClean g mid → HasTreeOf hash_key rows (trees_of g old) → HasTreeOf hash_key rows (trees_of g mid))
 search_stays g old mid (Ok found) hash_key Is finds others rows = λ clean has. tree_stays hash_key rows Is (trees_of g old) (trees_of g mid) found (finds clean) has (others clean)
 search_stays g old mid (Err why) hash_key Is finds others rows = tt
+
+-- and so does a count of its keys
+pub count_stays : {S E : Type 0} (g : Ghosts S) (old mid : S) (done : Result ℕ E) (hash_key : List ℕ)
+    → (IsClean g mid → IfOk done (CountsKeys (HoldsDigests hash_key) (trees_of g old) (trees_of g mid)))
+    → (IsClean g mid → OnOk done (KeepsOthers (trees_of g old) (trees_of g mid)))
+    → (rows : TextRows) → OnOk done (IsClean g mid → HasTreeOf hash_key rows (trees_of g old) → HasTreeOf hash_key rows (trees_of g mid))
+count_stays g old mid (Ok count) hash_key counts others rows =
+    λ clean has. tree_stays hash_key rows (λ _ _. ⊤) (trees_of g old) (trees_of g mid) count (λ lev m h held. ((counts clean lev m h held).0, tt)) has (others clean)
+count_stays g old mid (Err why) hash_key counts others rows = tt
+
+-- there are as many keys as rows
+pub rows_counted : (hash_key : List ℕ) (rows : TextRows) (old new : Trees) (count : ℕ) → CountsKeys (HoldsDigests hash_key) old new count → HasTreeOf hash_key rows old → count ≡ length rows
+rows_counted hash_key rows old new count counts has =
+    let pairs = digest_rows hash_key rows in
+    (counts (key_level hash_key) (bytes_map pairs) has.cells (pairs, latest_digests hash_key old rows has.latest, refl)).1
+    ∙ length-map pairs bytes_pair ∙ length-map rows (digest_row hash_key)

@@ -1,5 +1,5 @@
 //! What is asked of a store's file that has the tree of its latest registers.
-ghost use Rattle.std.specs.Prelude.{◌≡◌, IfOk, OnErr, OnOk};
+ghost use Rattle.std.specs.Prelude.{◌≡◌, IfOk, OnErr, OnOk, length};
 ghost use Rattle.key_order.specs.Map.{IsMap, get};
 ghost use Rattle.key_order.specs.Text.{text_order};
 ghost use Rattle.merkle_bytes.specs.Options.{IsOption};
@@ -27,7 +27,7 @@ use store_tree::TreeFault;
 use store_tree::outline::{Outline, outline_over};
 use store_tree::over::is_page;
 use store_tree::pairs::DIGEST_LEN;
-use store_tree::root::root_digest;
+use store_tree::root::{count_keys, root_digest};
 
 /// After an error takes back what isn't committed.
 fn settle<S: Store, A>(trees: &mut S, done: Result<A, TreeFault>) -> Result<A, TreeFault>
@@ -145,6 +145,24 @@ pub(crate) fn find_root<S: Store>(
         return Err(TreeFault::Database(StoreError::Broken));
     }
     let found = root_digest(alloc, trees, digests);
+    settle(trees, found)
+}
+
+/// How many keys there are.
+pub(crate) fn find_count<S: Store>(
+    alloc: Global,
+    trees: &mut S,
+    digests: &LatestDigests,
+) -> Result<u64, TreeFault>
+    requires file { IsFile S.Store digests.now trees.old }
+    ensures count { TellsFile S.Store digests.now trees.old trees.new result (λ rows count. count ≡ length rows) }
+    ensures kept { KeepsFile S.Store digests.now trees.old trees.new }
+    ensures steady { IsClean S.Store trees.new → IsClean S.Store trees.old }
+{
+    if trees.is_broken() {
+        return Err(TreeFault::Database(StoreError::Broken));
+    }
+    let found = count_keys(alloc, trees, digests);
     settle(trees, found)
 }
 

@@ -1,5 +1,5 @@
 //! What a store's file tells a peer, as the bytes of a message.
-ghost use Rattle.std.specs.Prelude.{◌≡◌, IfOk, OnOk, length, map};
+ghost use Rattle.std.specs.Prelude.{◌≡◌, IfOk, OnOk, map};
 ghost use Rattle.key_order.specs.Text.{text_order};
 ghost use Rattle.merkle_search_tree.specs.Items.{items, lent_gap};
 ghost use Rattle.merkle_wire.specs.Steps.{AddsValueAt};
@@ -23,21 +23,6 @@ use store_rows::LatestDigests;
 use store_tree::TreeFault;
 use store_tree::outline::Outline;
 use store_tree::pairs::DIGEST_LEN;
-
-/// How many keys there are. It takes memory for the latest register of each.
-pub(crate) fn count_rows<S: Store>(
-    alloc: Global,
-    trees: &mut S,
-    digests: &LatestDigests,
-) -> Result<u64, TreeFault>
-    requires file { IsFile S.Store digests.now trees.old }
-    ensures count { TellsFile S.Store digests.now trees.old trees.new result (λ rows count. count ≡ length rows) }
-    ensures kept { KeepsFile S.Store digests.now trees.old trees.new }
-    ensures steady { IsClean S.Store trees.new → IsClean S.Store trees.old }
-{
-    let rows = find_rows(alloc, trees, digests, &None, &None)?;
-    Ok(rows.len() as u64)
-}
 
 /// Adds the bytes of the latest register of a key, where it has one, and returns whether it has.
 pub(crate) fn add_latest<S: Store>(

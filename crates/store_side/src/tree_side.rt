@@ -4,9 +4,9 @@ ghost use Rattle.store_file.specs.Logs.{IsClean};
 ghost use Rattle.store_side.specs.FileTrees.{IsFile};
 ghost use Rattle.store_side.specs.Sides.{file_contents, kept_in_file};
 
-use crate::filed::{find_digest, find_key, find_page_at, find_root};
+use crate::filed::{find_count, find_digest, find_key, find_page_at, find_root};
 use crate::noted::{Noted, note};
-use crate::told::{add_latest, add_page, add_rows, count_rows};
+use crate::told::{add_latest, add_page, add_rows};
 use merkle_digest::{Digest, Hasher, PageDigest, SipHasher, ValueDigest, default_level_base};
 use merkle_search_tree::Gap;
 use merkle_search_tree::builder::PageFormat;
@@ -112,9 +112,9 @@ impl<S: Store> KeptTree<DIGEST_LEN, String, Register, SipHasher> for FileTree<S>
 /// The tree and the rows of a store in its file, for a session that answers a peer. Pages are told by digests, so a peer asks for the rows that it
 /// lacks by their keys.
 ///
-/// `root_digest` costs what [`root_digest`](store_tree::root::root_digest) says, `tell_page` what [`outline_over`](store_tree::outline::outline_over)
-/// says, and `add_value` a look into the table of entries. `add_part` reads the entries of all keys in the gap, and `count` those of all keys, and
-/// both take memory for the latest of each.
+/// `root_digest` costs what [`root_digest`](store_tree::root::root_digest) says, `count` what [`count_keys`](store_tree::root::count_keys) says,
+/// `tell_page` what [`outline_over`](store_tree::outline::outline_over) says, and `add_value` a look into the table of entries. `add_part` reads the
+/// entries of all keys in the gap, and takes memory for the latest of each.
 impl<S: Store> KeptSide<DIGEST_LEN, String, Register, SipHasher, ()> for FileTree<S> {
     type Error = TreeFault;
 
@@ -131,7 +131,7 @@ impl<S: Store> KeptSide<DIGEST_LEN, String, Register, SipHasher, ()> for FileTre
     }
 
     fn count(&mut self, _beside: &()) -> Result<u64, TreeFault> {
-        count_rows(self.alloc, &mut self.trees, &self.digests)
+        find_count(self.alloc, &mut self.trees, &self.digests)
     }
 
     fn root_digest(&mut self, _beside: &()) -> Result<Option<PageDigest>, TreeFault> {

@@ -4,4 +4,4 @@ use Rattle.store_side.proofs.tree_side.FileTreeKeptSideDIGEST_LENStringRegisterS
 
 pub returns-clause-count : goal.returns-clause-count
 returns-clause-count g c =
-    rw (sym c.self.view_is) (λ clean. if_ok c.count_rows.result _ _ (λ count told. told c.self.inside.noted.rows c.self.invariant) (c.count_rows.ensures.count clean))
+    rw (sym c.self.view_is) (λ clean. if_ok c.find_count.result _ _ (λ count told. told c.self.inside.noted.rows c.self.invariant) (c.find_count.ensures.count clean))
