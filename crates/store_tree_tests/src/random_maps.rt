@@ -16,7 +16,7 @@ use store_tree::TreeFault;
 use store_tree::outline::{Outline, outline_over};
 use store_tree::over::is_page;
 use store_tree::pairs::DIGEST_LEN;
-use store_tree::root::root_digest;
+use store_tree::root::{count_keys, root_digest};
 use store_tree::table::has_table;
 use store_tree::write::write;
 use test_keys::Random;
@@ -113,6 +113,12 @@ fn root_of(
     root_digest(alloc, &mut sides.store, &sides.rows)
 }
 
+/// How many keys there are, by the table of cells.
+fn count_of(rt: &impl Abort, alloc: Global, sides: &mut Sides) -> Result<u64, TreeFault> {
+    assert!(rt; has_table(&sides.store));
+    count_keys(alloc, &mut sides.store, &sides.rows)
+}
+
 /// The outline of the page over a gap, by the table of cells.
 fn told(
     rt: &impl Abort,
@@ -155,15 +161,17 @@ fn tell_alike(
     Ok(!list.is_empty() && are_items(&items, &list))
 }
 
-/// Whether the root page has one digest on both sides.
+/// Whether the root page has one digest on both sides, and the table of cells tells how many keys there are.
 fn have_one_root(rt: &impl Abort, alloc: Global, sides: &mut Sides) -> Result<bool, Fail> {
+    let count = count_of(rt, alloc, sides)?;
     let found = root_of(rt, alloc, sides)?;
     let _ = sides.tree.root_hash();
-    Ok(match sides.tree.whole() {
+    let is_root = match sides.tree.whole() {
         None => found.is_none(),
         Some(OutlineItem::Page(_, digest)) => is_digest(&found, Some(digest)),
         Some(_) => false,
-    })
+    };
+    Ok(is_root && count == sides.rows.rows().len() as u64)
 }
 
 /// A copy of a bound.
@@ -231,7 +239,7 @@ fn bound(alloc: Global, random: &mut Random, keys: u64) -> Result<Option<String>
     Ok(Some(key_of(alloc, random.below(keys))?))
 }
 
-/// Writes random keys, this many times, and compares both sides after each write: sometimes the root, and what is over a random gap.
+/// Writes random keys, this many times, and compares both sides after each write: sometimes the root and the number of keys, and what is over a random gap.
 pub(crate) fn write_at_random(
     rt: &impl Abort,
     alloc: Global,

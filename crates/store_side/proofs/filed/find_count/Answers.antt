@@ -1,6 +1,6 @@
 use Rattle.std.proofs.Common.{◌≡◌, ◌∙◌, length, sym, rules}
 use Rattle.store_file.specs.Logs.{trees_of}
-use Rattle.store_side.specs.Digests.{HoldsDigests}
+use Rattle.store_rows.specs.Digests.{HoldsDigests}
 use Rattle.store_side.proofs.Files.{count_stays, rows_counted, settled_clean, settled_keeps, settled_tells}
 use Rattle.store_side.proofs.filed.find_count.Goals as goal
 use Rattle.store_tree.specs.Calls.{CountsKeys}
