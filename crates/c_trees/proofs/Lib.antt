@@ -4,4 +4,3 @@ pub mod Pages
 pub mod Ranges
 pub mod Sets
 pub mod Spots
-pub mod Strings

@@ -2,18 +2,10 @@
 use Rattle.std.proofs.Common.{◌≡◌, ℕ, ◌+◌, ◌<◌, ◌≤◌, ◌^◌, List, [], ◌∷◌, ◌++◌, map, length, sym, ap, ◌∙◌, arith}
 use Rattle.std.specs.Bool.{⊤}
 use Rattle.std.specs.List.{AllByRecursion, flat_map}
-use Rattle.std.proofs.lemmas.List.{append_assoc, append-nil, length-append}
-use Rattle.std.proofs.lemmas.Grind.{flat_map-append}
+use Rattle.std.proofs.lemmas.List.{append_assoc, length-append}
 use Rattle.key_order.proofs.ListParts.{join_tells}
 use Rattle.c_values.specs.Lists.{number_bytes, marked_list}
-use Rattle.c_trees.proofs.Strings.{one_number}
-
--- one entry more was read
-pub read_more : {X : Type 0} (bytes : X → List ℕ) (done : List X) (x : X) (all rest behind : List ℕ)
-    → all ≡ flat_map bytes done ++ rest → rest ≡ bytes x ++ behind → all ≡ flat_map bytes (done ++ x ∷ []) ++ behind
-read_more bytes done x all rest behind e f =
-    e ∙ ap (λ t. flat_map bytes done ++ t) f ∙ sym (append_assoc (flat_map bytes done) (bytes x) behind)
-    ∙ ap (λ t. t ++ behind) (ap (λ t. flat_map bytes done ++ t) (sym (append-nil (bytes x))) ∙ sym (flat_map-append bytes done (x ∷ [])))
+use Rattle.c_values.proofs.Strings.{one_number}
 
 pub all_more : {X : Type 0} (P : X → Type 0) (xs : List X) (x : X) → AllByRecursion P xs → P x → AllByRecursion P (xs ++ x ∷ [])
 all_more P [] x a p = (p, tt)

@@ -11,7 +11,7 @@ use Rattle.c_trees.specs.Lists.{ArePageRanges, HasDigest, IsPageRange}
 use Rattle.c_trees.specs.Wire.{digest_bytes, digest_mark, digest_list, range_entry, key_mark, key_ranges_bytes, page_mark, span_bytes}
 use Rattle.c_values.specs.Lists.{marked_list, number_bytes, sized_row, row_mark, row_list, sized_bytes}
 use Rattle.c_trees.proofs.Lists.{each_trivial, list_length, no_more, one_list}
-use Rattle.c_trees.proofs.Strings.{one_row, one_row_with, one_text, some_row}
+use Rattle.c_values.proofs.Strings.{one_row, one_row_with, one_text, some_row}
 
 one_trivial_row : (x y : List ℕ × List ℕ) (r s : List ℕ) → ⊤ → ⊤ → length (sized_row x ++ r) < 2 ^ 64 → sized_row x ++ r ≡ sized_row y ++ s → (x ≡ y) × (r ≡ s)
 one_trivial_row x y r s p q = one_row x y r s

@@ -7,7 +7,7 @@ use Rattle.c_trees.specs.Spots.{AreEntries, IsList, IsParts, IsTwo, EntryParts, 
 use Rattle.c_values.specs.Lists.{marked_list, number_bytes, sized_bytes}
 use Rattle.c_trees.proofs.Lists.{list_length, same_body}
 use Rattle.c_trees.proofs.Ranges.{one_digest, some_digest}
-use Rattle.c_trees.proofs.Strings.{one_row, row_length, some_row}
+use Rattle.c_values.proofs.Strings.{one_row, row_length, some_row}
 
 -- the two parts of an entry are read in one way
 pub one_two : (plain : Bool) (x y : List ℕ × List ℕ) (r s : List ℕ) → IsTwo plain x → IsTwo plain y → length (two_bytes plain x ++ r) < 2 ^ 64

@@ -9,17 +9,19 @@ ghost use Rattle.merkle_tree_theory.specs.Stream.{page_digest};
 ghost use Rattle.merkle_search_tree.specs.Loading.{row_count};
 ghost use Rattle.c_trees.specs.Lists.{AllSet, AreDigests, AreLoaded, AreManyRows, ArePageRanges, AreRows, AreSetOf, FirstSet, HasPairs, IsLengthOf, IsLoaded, page_ranges_of};
 ghost use Rattle.c_trees.specs.Pages.{page_list};
-ghost use Rattle.c_trees.specs.Trees.{SamePairs, IsSet, IsSetTo, SetDropsFew, IsDel, IsCopied};
+ghost use Rattle.c_trees.specs.Trees.{SamePairs, IsSet, SetDropsFew, IsCopied};
+ghost use Rattle.c_values.specs.Trees.{IsSetTo, IsDel};
 ghost use Rattle.c_values.specs.Keys.{bytes_cmp, key_items, key_cmp, pairs_of};
 ghost use Rattle.c_trees.specs.Wire.{digest_list};
 ghost use Rattle.c_values.specs.Lists.{row_list};
-ghost use Rattle.c_trees.specs.declared.reading.ReadError.TheVariants.{Malformed};
+ghost use Rattle.c_values.specs.declared.reading.ListError.TheVariants.{Malformed};
 
 use crate::byte_hasher::ByteHasher;
 use crate::entries::is_list;
-use crate::reading::{ReadError, body_of, decode_digests, decode_rows, pair_of};
+use crate::reading::{decode_digests, decode_rows};
 use crate::walk::Pages;
-use crate::wire::{DIGESTS, ROWS, encode, encoded_len, put, put_digest, put_number};
+use crate::wire::{DIGESTS, encode, encoded_len, put_digest};
+use c_values::{ListError, ROWS, body_of, pair_of, put, put_number};
 use merkle_search_tree::builder::{Builder, PageFormat};
 use merkle_search_tree::{LoadRefused, MerkleSearchTree};
 use std::alloc::{AllocError, Global};
@@ -158,7 +160,7 @@ impl ByteTree {
     }
 
     /// Makes these rows the map, in place of the map that the tree has. Refused, the tree is as before.
-    pub fn load(&mut self, alloc: Global, rows: &[u8]) -> Result<(), ReadError>
+    pub fn load(&mut self, alloc: Global, rows: &[u8]) -> Result<(), ListError>
         ensures done { OnOk result (IsLoaded rows.now self.old.tree self.new.tree) }
         ensures malformed { result ≡ Err Malformed → (given : List (List ℕ × List ℕ)) → ¬ (AreRows rows.now given) }
         ensures unchanged { OnErr result (self.new ≡ self.old) }
@@ -168,7 +170,7 @@ impl ByteTree {
     }
 
     /// The same of keys that come with the digests of their values.
-    pub fn load_digests(&mut self, alloc: Global, list: &[u8]) -> Result<(), ReadError>
+    pub fn load_digests(&mut self, alloc: Global, list: &[u8]) -> Result<(), ListError>
         ensures done { OnOk result (AreLoaded list.now self.old.tree self.new.tree) }
         ensures malformed { result ≡ Err Malformed → (given : List (List ℕ × List ℕ)) → ¬ (AreDigests list.now given) }
         ensures unchanged { OnErr result (self.new ≡ self.old) }
@@ -182,7 +184,7 @@ impl ByteTree {
         &mut self,
         alloc: Global,
         pairs: Vec<(Vec<u8>, [u8; 16])>,
-    ) -> Result<(), ReadError>
+    ) -> Result<(), ListError>
         ensures done { OnOk result (HasPairs pairs.items self.old.tree self.new.tree) }
         ensures malformed { result ≡ Err Malformed → ¬ (IsMap key_cmp pairs.items) }
         ensures unchanged { OnErr result (self.new ≡ self.old) }
@@ -196,8 +198,8 @@ impl ByteTree {
                 self.tree = tree;
                 Ok(())
             }
-            Err(LoadRefused::Memory) => Err(ReadError::Memory),
-            Err(LoadRefused::NotAscending(_)) => Err(ReadError::Malformed),
+            Err(LoadRefused::Memory) => Err(ListError::Memory),
+            Err(LoadRefused::NotAscending(_)) => Err(ListError::Malformed),
         }
     }
 

@@ -6,8 +6,9 @@ ghost use Rattle.c_trees.specs.Spots.{AreEntries, BeginsWithEntry, BeginsWithNoE
 ghost use Rattle.c_trees.specs.Spots.{HasSecond, IsEntryAt, IsList, HasNoMark, gap_len, list_mark};
 ghost use Rattle.c_values.specs.Lists.{number_bytes};
 
-use crate::reading::{body_of, keyed_of, pair_of};
-use crate::wire::{DIGESTS, KEY_RANGES, PAGE_RANGES, ROWS};
+use crate::reading::keyed_of;
+use crate::wire::{DIGESTS, KEY_RANGES, PAGE_RANGES};
+use c_values::{ROWS, body_of, pair_of};
 use c_values::status::{ABSENT, ARGUMENT, DONE, MALFORMED};
 
 /// Where the parts of an entry lie in its list: places in bytes from the front of the list, and lengths in bytes. The place of a string

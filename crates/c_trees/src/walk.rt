@@ -5,7 +5,7 @@ ghost use Rattle.std.specs.Option.{option_map};
 ghost use Rattle.c_trees.specs.Pages.{Visited, cache_bytes, page_part, tree_mark};
 ghost use Rattle.c_values.specs.Lists.{number_bytes, sized_bytes};
 
-use crate::wire::{put, put_number, put_text};
+use c_values::{put, put_number, put_text};
 use merkle_digest::PageDigest;
 use merkle_search_tree::visitor::Visitor;
 use merkle_search_tree::{Node, Page};

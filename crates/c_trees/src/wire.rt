@@ -11,9 +11,10 @@ ghost use Rattle.merkle_tree_theory.specs.Page.{pair_of};
 ghost use Rattle.c_trees.specs.Lists.{ArePageRanges, IsLengthOf, IsPageRange, entry_by_bytes};
 ghost use Rattle.c_values.specs.Keys.{by_key};
 ghost use Rattle.c_trees.specs.Wire.{digest_bytes, range_entry, span_bytes, key_ranges_bytes};
-ghost use Rattle.c_values.specs.Lists.{number_bytes, sized_bytes};
+ghost use Rattle.c_values.specs.Lists.{sized_bytes};
 
 use crate::key::Key;
+use c_values::{put, put_number, put_text};
 use merkle_diff::{DiffRange, PageRange};
 use merkle_search_tree::{Node, PageRangeIter};
 use std::alloc::{AllocError, Global};
@@ -25,33 +26,8 @@ const FRONT: usize = 12;
 pub const PAGE_RANGES: [u8; 4] = *b"MSTp";
 /// The mark of a list of ranges of keys.
 pub const KEY_RANGES: [u8; 4] = *b"MSTk";
-/// The mark of a list of rows.
-pub const ROWS: [u8; 4] = *b"MSTr";
-
 /// The mark of a list of digests.
 pub const DIGESTS: [u8; 4] = *b"MSTd";
-
-/// Writes bytes.
-pub fn put(bytes: &[u8], out: &mut Vec<u8>) -> Result<(), AllocError>
-    ensures { OnOk result (out.new.items ≡ out.old.items ++ bytes.now) }
-{
-    out.extend_from_slice(bytes)
-}
-
-/// Writes a number.
-pub fn put_number(number: usize, out: &mut Vec<u8>) -> Result<(), AllocError>
-    ensures { OnOk result (out.new.items ≡ out.old.items ++ number_bytes number) }
-{
-    put(&(number as u64).to_le_bytes(), out)
-}
-
-/// Writes a string.
-pub fn put_text(text: &[u8], out: &mut Vec<u8>) -> Result<(), AllocError>
-    ensures { OnOk result (out.new.items ≡ out.old.items ++ sized_bytes text.now) }
-{
-    put_number(text.len(), out)?;
-    put(text, out)
-}
 
 /// Writes a page range.
 fn put_range(range: &PageRange<'_, Vec<u8>>, out: &mut Vec<u8>) -> Result<(), AllocError>

@@ -14,3 +14,10 @@ one_more to bytes xs i x front old new low is was put =
     (ap (λ t. done ++ t) (sym (append-nil (bytes (to x)))) ∙ sym (flat_map-append bytes (map to (take i xs)) (to x ∷ []))
     ∙ ap (flat_map bytes) (sym (map-append to (take i xs) (x ∷ [])))
     ∙ ap (λ t. flat_map bytes (map to t)) (ap (λ y. take i xs ++ y ∷ []) is ∙ sym (take_more xs i x low)))
+
+-- one entry more was read
+pub read_more : {X : Type 0} (bytes : X → List ℕ) (done : List X) (x : X) (all rest behind : List ℕ)
+    → all ≡ flat_map bytes done ++ rest → rest ≡ bytes x ++ behind → all ≡ flat_map bytes (done ++ x ∷ []) ++ behind
+read_more bytes done x all rest behind e f =
+    e ∙ ap (λ t. flat_map bytes done ++ t) f ∙ sym (append_assoc (flat_map bytes done) (bytes x) behind)
+    ∙ ap (λ t. t ++ behind) (ap (λ t. flat_map bytes done ++ t) (sym (append-nil (bytes x))) ∙ sym (flat_map-append bytes done (x ∷ [])))

@@ -3,3 +3,4 @@ pub mod Keys
 pub mod Lists
 pub mod Output
 pub mod Owned
+pub mod Trees

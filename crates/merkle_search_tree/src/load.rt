@@ -127,8 +127,8 @@ impl<
     ///         self.tree = tree;
     ///         Ok(())
     ///     }
-    ///     Err(LoadRefused::Memory) => Err(ReadError::Memory),
-    ///     Err(LoadRefused::NotAscending(_)) => Err(ReadError::Malformed),
+    ///     Err(LoadRefused::Memory) => Err(ListError::Memory),
+    ///     Err(LoadRefused::NotAscending(_)) => Err(ListError::Malformed),
     /// }
     /// ```
     ///

@@ -3,7 +3,8 @@ ghost use Rattle.std.specs.Prelude.{◌≡◌, ◌≢◌, ◌↔◌, ◌⊎◌, 
 ghost use Rattle.merkle_tree_theory.specs.Dropped.{RemovalDropsFew};
 ghost use Rattle.mst_c.specs.Handles.{ChangesTree};
 ghost use Rattle.c_trees.specs.Lists.{AllSet, AreDigests, AreLoaded, AreRows, FirstSet, IsLoaded};
-ghost use Rattle.c_trees.specs.Trees.{IsSet, IsSetTo, SetDropsFew, IsDel};
+ghost use Rattle.c_trees.specs.Trees.{IsSet, SetDropsFew};
+ghost use Rattle.c_values.specs.Trees.{IsDel, IsSetTo};
 ghost use Rattle.c_values.specs.Lists.{row_list};
 
 use crate::handle::{MstTree, put_back, take_out};

@@ -3,7 +3,8 @@ use Rattle.std.specs.Bool.{◌==◌}
 use Rattle.std.specs.List.{flat_map}
 use Rattle.std.proofs.lemmas.List.{append-nil, length-append, nil_from_length}
 use Rattle.c_trees.specs.Spots.{EntryParts, IsParts, two_part_entry}
-use Rattle.c_trees.proofs.Lists.{all_more, none_left, one_left, read_more}
+use Rattle.c_trees.proofs.Lists.{all_more, none_left, one_left}
+use Rattle.c_values.proofs.Lists.{read_more}
 use Rattle.c_trees.proofs.Spots.{parts_end}
 use Rattle.c_trees.proofs.entries.is_list.Goals as goal
 

@@ -1,7 +1,7 @@
 use Rattle.std.proofs.Common.{rules, ◌≡◌, ◌<◌, ◌^◌, length, sym, Err}
 use Rattle.std.specs.List.{flat_map}
 use Rattle.c_trees.specs.Wire.{page_mark, range_entry}
-use Rattle.c_trees.specs.declared.reading.ReadError.TheVariants.{Malformed}
+use Rattle.c_values.specs.declared.reading.ListError.TheVariants.{Malformed}
 use Rattle.c_trees.proofs.Lists.{same_body}
 use Rattle.c_trees.proofs.Ranges.{some_entry}
 use Rattle.c_trees.proofs.reading.decode.Goals as goal

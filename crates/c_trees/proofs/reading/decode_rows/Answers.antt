@@ -2,7 +2,7 @@ use Rattle.std.proofs.Common.{rules, ◌<◌, ◌^◌, length, sym}
 use Rattle.std.specs.List.{flat_map}
 use Rattle.c_values.specs.Lists.{row_mark, sized_row}
 use Rattle.c_trees.proofs.Lists.{same_body}
-use Rattle.c_trees.proofs.Strings.{some_row}
+use Rattle.c_values.proofs.Strings.{some_row}
 use Rattle.c_trees.proofs.reading.decode_rows.Goals as goal
 
 pub returns-in_default-clause-malformed : goal.returns-in_default-clause-malformed

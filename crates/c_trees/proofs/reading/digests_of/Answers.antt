@@ -4,7 +4,8 @@ use Rattle.std.proofs.lemmas.List.{length-append}
 use Rattle.c_trees.specs.Lists.{HasDigest}
 use Rattle.c_values.specs.Keys.{by_key}
 use Rattle.c_trees.specs.Wire.{digest_bytes}
-use Rattle.c_trees.proofs.Lists.{all_more, none_left, one_left, read_more}
+use Rattle.c_trees.proofs.Lists.{all_more, none_left, one_left}
+use Rattle.c_values.proofs.Lists.{read_more}
 use Rattle.c_trees.proofs.Ranges.{digest_ends}
 use Rattle.c_trees.proofs.reading.digests_of.Goals as goal
 

@@ -2,7 +2,7 @@ use Rattle.std.proofs.Common.{rules, arith, ◌<◌, ◌^◌, ◌++◌, length, 
 use Rattle.std.proofs.lemmas.List.{length-append, length-take-le, take-append-drop}
 use Rattle.c_values.specs.Lists.{sized_bytes}
 use Rattle.c_trees.proofs.Ranges.{as_text}
-use Rattle.c_trees.proofs.Strings.{one_text}
+use Rattle.c_values.proofs.Strings.{one_text}
 use Rattle.c_trees.proofs.reading.keyed_of.Goals as goal
 
 pub returns-clause-keyed : goal.returns-clause-keyed

@@ -7,7 +7,7 @@ use Rattle.c_values.specs.Keys.{bytes_cmp}
 use Rattle.c_trees.specs.Wire.{range_entry}
 use Rattle.c_values.specs.Lists.{sized_row}
 use Rattle.c_trees.proofs.Ranges.{as_row}
-use Rattle.c_trees.proofs.Strings.{one_row}
+use Rattle.c_values.proofs.Strings.{one_row}
 use Rattle.c_trees.proofs.reading.range_of.Goals as goal
 
 pub returns-in_err-first-clause-none : goal.returns-in_err-first-clause-none

@@ -3,7 +3,8 @@ use Rattle.std.specs.Bool.{⊤}
 use Rattle.std.proofs.lemmas.List.{length-append, map-append}
 use Rattle.merkle_digest.specs.SipHash.{siphash128}
 use Rattle.c_values.specs.Lists.{sized_row}
-use Rattle.c_trees.proofs.Lists.{each_trivial, none_left, one_left, read_more}
+use Rattle.c_trees.proofs.Lists.{each_trivial, none_left, one_left}
+use Rattle.c_values.proofs.Lists.{read_more}
 use Rattle.c_trees.proofs.Ranges.{row_ends}
 use Rattle.c_trees.proofs.reading.rows_of.Goals as goal
 

@@ -2,7 +2,7 @@ use Rattle.std.proofs.Common.{rules, arith, ◌≡◌, ◌<◌, ◌^◌, ◌++�
 use Rattle.std.proofs.lemmas.List.{length-append}
 use Rattle.c_trees.specs.Lists.{AreSet}
 use Rattle.c_values.specs.Lists.{sized_row}
-use Rattle.c_trees.proofs.Lists.{read_more}
+use Rattle.c_values.proofs.Lists.{read_more}
 use Rattle.c_trees.proofs.Sets.{front_set, one_set}
 use Rattle.c_trees.proofs.byte_tree.ByteTree.set_rows.Goals as goal
 

@@ -1,6 +1,6 @@
 use Rattle.std.proofs.Common.{OnOk, ap, subst, ◌∙◌}
 use Rattle.merkle_digest.specs.SipHash.{siphash128}
-use Rattle.c_trees.specs.Trees.{IsSetTo}
+use Rattle.c_values.specs.Trees.{IsSetTo}
 use Rattle.c_trees.proofs.byte_tree.ByteTree.upsert.Goals as goal
 
 pub returns-clause-done : goal.returns-clause-done

@@ -3,7 +3,7 @@ use Rattle.std.specs.List.{flat_map}
 use Rattle.c_values.specs.Lists.{sized_row, row_mark}
 use Rattle.c_trees.proofs.Lists.{same_body}
 use Rattle.c_trees.proofs.Sets.{entries_from_rows, rows_from_entries}
-use Rattle.c_trees.proofs.Strings.{some_row}
+use Rattle.c_values.proofs.Strings.{some_row}
 use Rattle.c_trees.proofs.byte_tree.ByteTree.upsert_rows.Goals as goal
 
 pub returns-in_err-count-clause-malformed : goal.returns-in_err-count-clause-malformed

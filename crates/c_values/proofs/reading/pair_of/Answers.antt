@@ -1,8 +1,8 @@
 use Rattle.std.proofs.Common.{rules, arith, ◌<◌, ◌^◌, ◌++◌, length, sym, ap, ◌∙◌}
 use Rattle.std.proofs.lemmas.List.{append_assoc}
 use Rattle.c_values.specs.Lists.{sized_bytes}
-use Rattle.c_trees.proofs.Strings.{one_text}
-use Rattle.c_trees.proofs.reading.pair_of.Goals as goal
+use Rattle.c_values.proofs.Strings.{one_text}
+use Rattle.c_values.proofs.reading.pair_of.Goals as goal
 
 pub returns-in_err-second-clause-none : goal.returns-in_err-second-clause-none
 returns-in_err-second-clause-none c none row rest e =
