@@ -1,5 +1,5 @@
 -- The entries of a list, and where they lie.
-use Rattle.std.specs.Prelude.{◌≡◌, ◌≢◌, ℕ, ◌+◌, Bool, true, not, ◌&&◌, if◌then◌else◌, nat_eq, List, ◌++◌, length}
+use Rattle.std.specs.Prelude.{◌≡◌, ◌≢◌, ◌⊎◌, ℕ, ◌+◌, Bool, true, not, ◌&&◌, if◌then◌else◌, nat_eq, List, ◌++◌, length}
 use Rattle.std.specs.List.{AllByRecursion, flat_map}
 use Rattle.c_trees.specs.Lists.{HasDigest}
 use Rattle.c_trees.specs.Wire.{digest_bytes, page_mark, key_mark, digest_mark}
@@ -97,3 +97,15 @@ pub record IsEntryAt (rows : Bool) (list : List ℕ) (old new : ℕ) (spot : Mst
 -- an entry of the kind of the list's mark begins there
 abbrev pub HasEntryAt : Bool → List ℕ → ℕ → Type 0
 HasEntryAt rows list at = (behind : ℕ) × (spot : MstSpot) × IsEntryAt rows list at behind spot
+
+-- entries can be read from a place: the list's mark stands in front, and where that is the beginning, the whole is a list
+abbrev pub IsReadable : Bool → List ℕ → ℕ → Type 0
+IsReadable rows list at = HasFront rows list × (at ≡ 0 → IsList rows list)
+
+-- no entry of the kind of the list's mark begins at a place, and where that is the beginning, the whole is no list
+abbrev pub HasNoEntryAt : Bool → List ℕ → ℕ → Type 0
+HasNoEntryAt rows list at = ¬ (HasEntryAt rows list at) × (at ≡ 0 → ¬ (IsList rows list))
+
+-- a place is after the last entry: at the end, or at the beginning of a list without entries
+abbrev pub IsAfterLast : List ℕ → ℕ → Type 0
+IsAfterLast list at = (at ≡ length list) ⊎ ((at ≡ 0) × (length list ≡ 12))

@@ -2,14 +2,14 @@
 
 ghost use Rattle.std.specs.Prelude.{◌≡◌, ◌≢◌, ◌↔◌, true, false, ◌&&◌, None, ◌<◌, ◌+◌, ◌-◌, ◌^◌, ◌⊎◌, ◌++◌};
 ghost use Rattle.std.specs.Prelude.{IfSome, if◌then◌else◌, length, nat_eq};
-ghost use Rattle.c_trees.specs.Spots.{AreEntries, BeginsWithEntry, BeginsWithNoEntry, BeginsWithNoTwo, BeginsWithTwo, HasEntryAt, HasFront};
-ghost use Rattle.c_trees.specs.Spots.{HasSecond, IsEntryAt, IsList, HasNoMark, gap_len, list_mark};
+ghost use Rattle.c_trees.specs.Spots.{AreEntries, BeginsWithEntry, BeginsWithNoEntry, BeginsWithNoTwo, BeginsWithTwo, HasFront};
+ghost use Rattle.c_trees.specs.Spots.{HasNoEntryAt, HasNoMark, HasSecond, IsAfterLast, IsEntryAt, IsReadable, gap_len, list_mark};
 ghost use Rattle.c_values.specs.Lists.{number_bytes};
 
 use crate::reading::keyed_of;
 use crate::wire::{DIGESTS, KEY_RANGES, PAGE_RANGES};
-use c_values::{ROWS, body_of, pair_of};
 use c_values::status::{ABSENT, ARGUMENT, DONE, MALFORMED};
+use c_values::{ROWS, body_of, pair_of};
 
 /// Where the parts of an entry lie in its list: places in bytes from the front of the list, and lengths in bytes. The place of a string
 /// is after its length.
@@ -133,13 +133,10 @@ fn spot_of(plain: bool, hashed: bool, start: usize, first: &[u8], last: &[u8]) -
 /// as before. It takes no memory.
 pub fn next(rows: bool, list: &[u8], at: &mut usize, spot: &mut MstSpot) -> u32
     ensures entry { result ≡ 0 → IsEntryAt rows list.now at.old at.new spot.new }
-    ensures front { result ≢ 2 → HasFront rows list.now }
-    ensures whole { result ≢ 2 → at.old ≡ 0 → IsList rows list.now }
-    ensures malformed { result ≡ 2 → at.old ≡ 0 → ¬ (IsList rows list.now) }
-    ensures no_entry { result ≡ 2 → ¬ (HasEntryAt rows list.now at.old) }
-    ensures argument { result ≡ 4 → length list.now < at.old }
-    ensures beyond { HasFront rows list.now → length list.now < at.old → result ≡ 4 }
-    ensures absent { result ≡ 5 → (at.old ≡ length list.now) ⊎ ((at.old ≡ 0) × (length list.now ≡ 12)) }
+    ensures readable { result ≢ 2 → IsReadable rows list.now at.old }
+    ensures malformed { result ≡ 2 → HasNoEntryAt rows list.now at.old }
+    ensures argument { HasFront rows list.now → (result ≡ 4) ↔ (length list.now < at.old) }
+    ensures absent { result ≡ 5 → IsAfterLast list.now at.old }
     ensures at_end { HasFront rows list.now → at.old ≡ length list.now → result ≡ 5 }
     ensures unchanged { result ≢ 0 → (at.new ≡ at.old) × (spot.new ≡ spot.old) }
     ensures status { (result ≡ 0) ⊎ (result ≡ 2) ⊎ (result ≡ 4) ⊎ (result ≡ 5) }

@@ -1,7 +1,7 @@
 //! Calls that go through the entries of a list, where they lie.
 
-ghost use Rattle.std.specs.Prelude.{◌≡◌, ◌≢◌, ◌⊎◌, ◌<◌, length, true, false};
-ghost use Rattle.c_trees.specs.Spots.{HasEntryAt, HasFront, IsEntryAt, IsList};
+ghost use Rattle.std.specs.Prelude.{◌≡◌, ◌≢◌, ◌↔◌, ◌⊎◌, ◌<◌, length, true, false};
+ghost use Rattle.c_trees.specs.Spots.{HasFront, HasNoEntryAt, IsAfterLast, IsEntryAt, IsReadable};
 
 use c_trees::entries::{MstSpot, next};
 
@@ -14,13 +14,10 @@ use c_trees::entries::{MstSpot, next};
 #[unsafe(no_mangle)]
 pub extern "C" fn mst_proved_ranges_next(list: &[u8], at: &mut usize, spot: &mut MstSpot) -> u32
     ensures entry { result ≡ 0 → IsEntryAt false list.now at.old at.new spot.new }
-    ensures front { result ≢ 2 → HasFront false list.now }
-    ensures whole { result ≢ 2 → at.old ≡ 0 → IsList false list.now }
-    ensures malformed { result ≡ 2 → at.old ≡ 0 → ¬ (IsList false list.now) }
-    ensures no_entry { result ≡ 2 → ¬ (HasEntryAt false list.now at.old) }
-    ensures argument { result ≡ 4 → length list.now < at.old }
-    ensures beyond { HasFront false list.now → length list.now < at.old → result ≡ 4 }
-    ensures absent { result ≡ 5 → (at.old ≡ length list.now) ⊎ ((at.old ≡ 0) × (length list.now ≡ 12)) }
+    ensures readable { result ≢ 2 → IsReadable false list.now at.old }
+    ensures malformed { result ≡ 2 → HasNoEntryAt false list.now at.old }
+    ensures argument { HasFront false list.now → (result ≡ 4) ↔ (length list.now < at.old) }
+    ensures absent { result ≡ 5 → IsAfterLast list.now at.old }
     ensures at_end { HasFront false list.now → at.old ≡ length list.now → result ≡ 5 }
     ensures unchanged { result ≢ 0 → (at.new ≡ at.old) × (spot.new ≡ spot.old) }
     ensures status { (result ≡ 0) ⊎ (result ≡ 2) ⊎ (result ≡ 4) ⊎ (result ≡ 5) }
@@ -32,13 +29,10 @@ pub extern "C" fn mst_proved_ranges_next(list: &[u8], at: &mut usize, spot: &mut
 #[unsafe(no_mangle)]
 pub extern "C" fn mst_proved_rows_next(list: &[u8], at: &mut usize, spot: &mut MstSpot) -> u32
     ensures entry { result ≡ 0 → IsEntryAt true list.now at.old at.new spot.new }
-    ensures front { result ≢ 2 → HasFront true list.now }
-    ensures whole { result ≢ 2 → at.old ≡ 0 → IsList true list.now }
-    ensures malformed { result ≡ 2 → at.old ≡ 0 → ¬ (IsList true list.now) }
-    ensures no_entry { result ≡ 2 → ¬ (HasEntryAt true list.now at.old) }
-    ensures argument { result ≡ 4 → length list.now < at.old }
-    ensures beyond { HasFront true list.now → length list.now < at.old → result ≡ 4 }
-    ensures absent { result ≡ 5 → (at.old ≡ length list.now) ⊎ ((at.old ≡ 0) × (length list.now ≡ 12)) }
+    ensures readable { result ≢ 2 → IsReadable true list.now at.old }
+    ensures malformed { result ≡ 2 → HasNoEntryAt true list.now at.old }
+    ensures argument { HasFront true list.now → (result ≡ 4) ↔ (length list.now < at.old) }
+    ensures absent { result ≡ 5 → IsAfterLast list.now at.old }
     ensures at_end { HasFront true list.now → at.old ≡ length list.now → result ≡ 5 }
     ensures unchanged { result ≢ 0 → (at.new ≡ at.old) × (spot.new ≡ spot.old) }
     ensures status { (result ≡ 0) ⊎ (result ≡ 2) ⊎ (result ≡ 4) ⊎ (result ≡ 5) }
