@@ -1,30 +1,29 @@
 -- What the calls do to the tree of a handle.
-use Rattle.std.specs.Prelude.{◌≡◌, ◌≢◌, ◌⊎◌, ℕ, ◌<◌, ◌≤◌, List, ◌++◌, drop, length, Option, None, Some}
+use Rattle.std.specs.Prelude.{◌≡◌, ◌≢◌, ◌⊎◌, ℕ, ◌<◌, List, Option, None}
 use Rattle.key_order.specs.Map.{get}
 use Rattle.merkle_tree_theory.specs.State.{IsNew}
 use Rattle.merkle_tree_theory.specs.declared.page_format.PageFormat.{PageFormat}
 use Rattle.c_trees.specs.Trees.{ByteState}
+use Rattle.c_values.specs.Handles.{Changes, Has}
 use Rattle.c_values.specs.Keys.{bytes_cmp, pairs_of}
+use Rattle.c_values.specs.Output.{IsOutput, IsShort}
 use Rattle.c_trees.specs.declared.byte_tree.ByteTree.{ByteTree}
 
 -- the handle has a tree, of which this holds
 abbrev pub HasTree : Option ByteTree → (ByteState → Type 0) → Type 0
-HasTree None P = ⊥
-HasTree (Some s) P = P s.tree
+HasTree tree P = Has tree (λ s. P s.tree)
 
 -- the handle had a tree and has one, and they are related
 abbrev pub ChangesTree : Option ByteTree → Option ByteTree → (ByteState → ByteState → Type 0) → Type 0
-ChangesTree None new R = ⊥
-ChangesTree (Some s) None R = ⊥
-ChangesTree (Some s) (Some t) R = R s.tree t.tree
+ChangesTree old new R = Changes old new (λ s t. R s.tree t.tree)
 
 -- bytes of which this holds, as many as needed, are in front of out, and after them it is as before
 abbrev pub IsOutputWhere : List ℕ → List ℕ → ℕ → (List ℕ → Type 0) → Type 0
-IsOutputWhere old new needed P = (bytes : List ℕ) × P bytes × (needed ≡ length bytes) × (needed ≤ length old) × (new ≡ bytes ++ drop needed old)
+IsOutputWhere old new needed P = (bytes : List ℕ) × P bytes × IsOutput old new needed bytes
 
 -- there are such bytes, as many as needed, and out is shorter
 abbrev pub IsShortWhere : List ℕ → ℕ → (List ℕ → Type 0) → Type 0
-IsShortWhere out needed P = (length out < needed) × ((bytes : List ℕ) × P bytes × (needed ≡ length bytes))
+IsShortWhere out needed P = (bytes : List ℕ) × P bytes × IsShort out needed bytes
 
 -- the handle has a tree, and bytes that tell this of it are in front of out
 abbrev pub IsOutputOf : Option ByteTree → (ByteState → List ℕ → Type 0) → List ℕ → List ℕ → ℕ → Type 0
