@@ -13,20 +13,28 @@ use std::process::Abort;
 use std::test::Fail;
 use store_file::format::HASH_KEY_LEN;
 use store_file::log::Log;
-use store_file::{Register, StoreFault};
+use store_file::table::Entries;
+use store_file::{StoreFault, Value};
 use store_rows::LatestDigests;
-use store_rows::writing::{add_all, replace_all};
+use store_rows::latest::{put, remove};
+use store_rows::writing::{add_all, compact, replace_all};
 use store_side::FileTree;
 use store_side::laws::a_log_in_step_is_a_file;
 use store_tree::outline::{Outline, outline_over};
 use store_tree::root::root_digest;
 use store_tree::table::has_table;
 
-/// Entries that are added to a log, or put in place of all others.
+/// A write to a log, and to the tree beside it.
 #[derive(Drop)]
-pub struct Write {
-    pub entries: Vec<(String, Register)>,
-    pub anew: bool,
+pub enum Write {
+    /// Entries are added.
+    Add(Entries),
+    /// Entries are put in place of all others.
+    Replace(Entries),
+    /// At this time of the clock a value is written under a key, or the key is removed where there is none.
+    Set(String, u64, Option<Value>),
+    /// One entry is left for each key, and none for a removal that is older than this.
+    Compact(u64),
 }
 
 /// What the table of cells tells of the tree after a write: its root, and what is over a gap.
@@ -89,25 +97,56 @@ fn ask<S: Store + Drop>(
     Ok((log, Told { root, outline }))
 }
 
-/// Makes a write to a log, and to the tree beside it.
+/// The name by which keys are set.
+pub const WRITER: &str = "key 1";
+
+/// Writes a value under a key, or removes it where there is none, and returns whether the key was there if it is removed.
+fn set_key<S: Store>(
+    alloc: Global,
+    trees: &mut S,
+    hash_key: &[u8; HASH_KEY_LEN],
+    key: &String,
+    now: u64,
+    value: &Option<Value>,
+) -> Result<bool, StoreFault>
+    requires log { IsLog S.Store trees.old }
+    ensures log { IsLog S.Store trees.new }
+    ensures stands { StandsInStep S.Store hash_key.now trees.old → StandsInStep S.Store hash_key.now trees.new }
+{
+    let writer = String::from_str(alloc, WRITER)?;
+    let key = key.clone()?;
+    let Some(value) = value else {
+        return remove(alloc, trees, hash_key, writer, now, key);
+    };
+    let value = value.clone()?;
+    put(alloc, trees, hash_key, writer, now, key, value)?;
+    Ok(false)
+}
+
+/// Makes a write to a log, and to the tree beside it, and returns what the call tells: how many entries are left, or 1 where a removed key was there; else 0.
 fn make_write<S: Store>(
     alloc: Global,
     trees: &mut S,
     hash_key: &[u8; HASH_KEY_LEN],
     write: &Write,
-) -> Result<(), StoreFault>
+) -> Result<usize, StoreFault>
     requires log { IsLog S.Store trees.old }
     ensures log { IsLog S.Store trees.new }
     ensures stands { StandsInStep S.Store hash_key.now trees.old → StandsInStep S.Store hash_key.now trees.new }
 {
-    if write.anew {
-        replace_all(alloc, trees, hash_key, &write.entries)
-    } else {
-        add_all(alloc, trees, hash_key, &write.entries)
+    match write {
+        Write::Add(entries) => add_all(alloc, trees, hash_key, entries)?,
+        Write::Replace(entries) => replace_all(alloc, trees, hash_key, entries)?,
+        Write::Set(key, now, value) => {
+            let was = set_key(alloc, trees, hash_key, key, *now, value)?;
+            return Ok(usize::from(was));
+        }
+        Write::Compact(before) => return compact(alloc, trees, hash_key, *before),
     }
+    Ok(0)
 }
 
-/// Makes a write to a log, and to the tree beside it, and asks what is over a gap.
+/// Makes a write to a log, and to the tree beside it, and asks what is over a gap. It returns what the call tells, too.
 pub fn write_and_ask<S: Store + Drop>(
     rt: &impl Abort,
     alloc: Global,
@@ -115,10 +154,11 @@ pub fn write_and_ask<S: Store + Drop>(
     hash_key: &[u8; HASH_KEY_LEN],
     write: &Write,
     gap: &(Option<String>, Option<String>),
-) -> Result<(Log<S>, Told), Fail> {
+) -> Result<(Log<S>, Told, usize), Fail> {
     let mut trees = log.into_trees();
-    make_write(alloc, &mut trees, hash_key, write)?;
-    ask(rt, alloc, trees, &LatestDigests::new(hash_key), gap)
+    let count = make_write(alloc, &mut trees, hash_key, write)?;
+    let (log, told) = ask(rt, alloc, trees, &LatestDigests::new(hash_key), gap)?;
+    Ok((log, told, count))
 }
 
 /// Makes writes to a log, and to the tree beside it, one after the other.

@@ -1,5 +1,5 @@
 //! Random writes to a log, after which its table of cells tells what the tree of its replica tells.
-use crate::logs::{Told, Write, empty, write_and_ask};
+use crate::logs::{Told, WRITER, Write, empty, write_and_ask};
 use merkle_search_tree::OutlineItem;
 use merkle_store::rows::{EntryReplica, read_replica};
 use sqlite_trees::memory::MemStore;
@@ -8,6 +8,7 @@ use std::process::Abort;
 use std::test::Fail;
 use store_file::format::HASH_KEY_LEN;
 use store_file::log::Log;
+use store_file::table::Entries;
 use store_file::{Register, Value};
 use store_tree_tests::same::{are_items, is_digest, lent};
 use test_keys::Random;
@@ -41,16 +42,102 @@ fn entry(alloc: Global, random: &mut Random, keys: u64) -> Result<(String, Regis
     Ok((key_of(alloc, random.below(keys))?, register))
 }
 
-/// A random write: of one to three entries, and now and then in place of all others.
-fn some_write(alloc: Global, random: &mut Random, keys: u64) -> Result<Write, AllocError> {
+/// One to three random entries.
+fn entries(alloc: Global, random: &mut Random, keys: u64) -> Result<Entries, AllocError> {
     let mut entries = Vec::new(alloc);
     for _ in 0..random.below(3).saturating_add(1) {
         entries.push(entry(alloc, random, keys)?)?;
     }
-    Ok(Write {
-        entries,
-        anew: random.below(30) == 0,
-    })
+    Ok(entries)
+}
+
+/// A random write: half of the time of a key, now and then a compaction, and seldom in place of all entries.
+fn some_write(alloc: Global, random: &mut Random, keys: u64) -> Result<Write, AllocError> {
+    match random.below(30) {
+        0 => Ok(Write::Replace(entries(alloc, random, keys)?)),
+        1 | 2 => Ok(Write::Compact(random.below(25))),
+        3..=16 => {
+            let key = key_of(alloc, random.below(keys))?;
+            Ok(Write::Set(key, random.below(25), value(alloc, random)?))
+        }
+        _ => Ok(Write::Add(entries(alloc, random, keys)?)),
+    }
+}
+
+/// The register that a list has for a key.
+fn register_of<'a>(rows: &'a [(String, Register)], key: &String) -> Option<&'a Register> {
+    for row in rows {
+        if row.0 == *key {
+            return Some(&row.1);
+        }
+    }
+    None
+}
+
+/// Puts the register of a key in its place in a list, which is not sorted, if it is later than what is there.
+fn set(rows: &mut Entries, entry: (String, Register)) -> Result<(), AllocError> {
+    let later = match register_of(rows, &entry.0) {
+        Some(own) => *own < entry.1,
+        None => true,
+    };
+    if later {
+        rows.retain(|row: &(String, Register)| -> bool { row.0 != entry.0 });
+        rows.push(entry)?;
+    }
+    Ok(())
+}
+
+/// Puts a copy of each of the entries in its place in a list.
+fn set_all(rows: &mut Entries, entries: &[(String, Register)]) -> Result<(), AllocError> {
+    for (key, register) in entries {
+        set(rows, (key.clone()?, register.copy()?))?;
+    }
+    Ok(())
+}
+
+/// Writes a value under a key of a list, or removes it if it is there, and returns whether it was there if it is removed.
+fn set_key(
+    alloc: Global,
+    rows: &mut Entries,
+    key: &String,
+    now: u64,
+    value: &Option<Value>,
+) -> Result<bool, AllocError> {
+    let found = register_of(rows, key);
+    let there = found.is_some_and(|own: &Register| -> bool { own.value.is_some() });
+    if value.is_none() && !there {
+        return Ok(false);
+    }
+    let register = Register {
+        time: found.map_or(now, |own: &Register| -> u64 {
+            now.max(own.time.saturating_add(1))
+        }),
+        writer: String::from_str(alloc, WRITER)?,
+        value: value.clone()?,
+    };
+    set(rows, (key.clone()?, register))?;
+    Ok(value.is_none())
+}
+
+/// Makes a write to a list of the latest registers, and returns what the call of the log is to tell.
+fn write_to_list(alloc: Global, rows: &mut Entries, write: &Write) -> Result<usize, AllocError> {
+    match write {
+        Write::Add(entries) => set_all(rows, entries)?,
+        Write::Replace(entries) => {
+            rows.clear();
+            set_all(rows, entries)?;
+        }
+        Write::Set(key, now, value) => {
+            return Ok(usize::from(set_key(alloc, rows, key, *now, value)?));
+        }
+        Write::Compact(before) => {
+            rows.retain(|row: &(String, Register)| -> bool {
+                row.1.value.is_some() || row.1.time >= *before
+            });
+            return Ok(rows.len());
+        }
+    }
+    Ok(0)
 }
 
 /// A bound by a random number: half of the time there is none.
@@ -87,20 +174,25 @@ fn is_over(
     Ok(!list.is_empty() && are_items(&items, &list))
 }
 
-/// Makes a random write, and returns the log, if its table of cells then tells what the tree of its replica tells.
+/// Makes a random write to a log and to a list, and returns the log, if it has the rows of the list then, and its table of cells tells what the tree of its
+/// replica tells.
 fn write_at_random(
     rt: &impl Abort,
     alloc: Global,
     log: Log<MemStore>,
+    rows: &mut Entries,
     random: &mut Random,
     keys: u64,
 ) -> Result<Option<Log<MemStore>>, Fail> {
     let write = some_write(alloc, random, keys)?;
     let gap = (bound(alloc, random, keys)?, bound(alloc, random, keys)?);
-    let (mut log, told) = write_and_ask(rt, alloc, log, &HASH_KEY, &write, &gap)?;
+    let (mut log, told, count) = write_and_ask(rt, alloc, log, &HASH_KEY, &write, &gap)?;
+    let expected = write_to_list(alloc, rows, &write)?;
+    rows.sort_unstable();
     let mut replica = read_replica(alloc, &mut log, &HASH_KEY)?;
     replica.hash();
-    if !is_root(&told, &replica) || !is_over(alloc, &told, &replica, &gap)? {
+    let same = count == expected && replica.rows() == rows.as_slice();
+    if !same || !is_root(&told, &replica) || !is_over(alloc, &told, &replica, &gap)? {
         return Ok(None);
     }
     Ok(Some(log))
@@ -114,8 +206,9 @@ fn random_writes_leave_the_tree_of_the_replica(rt: HostRuntime) -> Result<(), Fa
     for (keys, times) in BATCHES {
         let mut random = Random::new(keys);
         let mut log = empty(rt.alloc())?;
+        let mut rows = Vec::new(rt.alloc());
         for _ in 0..times {
-            let added = write_at_random(&rt, rt.alloc(), log, &mut random, keys)?;
+            let added = write_at_random(&rt, rt.alloc(), log, &mut rows, &mut random, keys)?;
             log = added.ok_or("another tree")?;
         }
     }

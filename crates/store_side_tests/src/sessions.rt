@@ -80,9 +80,11 @@ fn random_given(
 fn writes_of(alloc: Global, given: &[Given]) -> Result<Vec<Write>, AllocError> {
     let mut writes = Vec::new(alloc);
     for new in given {
-        writes.push(Write {
-            entries: entries_of(alloc, &new.numbers)?,
-            anew: new.anew,
+        let entries = entries_of(alloc, &new.numbers)?;
+        writes.push(if new.anew {
+            Write::Replace(entries)
+        } else {
+            Write::Add(entries)
         })?;
     }
     Ok(writes)
