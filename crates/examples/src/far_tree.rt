@@ -112,6 +112,13 @@ impl<const N: usize, K: Key + Drop, V: Join + Drop, H: RowHasher<N, K, V>> KeptT
         Ok(self.tree.some_key()?)
     }
 
+    fn has_digest(&mut self, key: &K, digest: &[u8]) -> Result<bool, FarError> {
+        if !self.is_near {
+            return Err(FarError::Away);
+        }
+        Ok(self.tree.has_digest(key, digest)?)
+    }
+
     fn digest_at(&mut self, key: &K) -> Result<Option<ValueDigest<N>>, FarError> {
         if !self.is_near {
             return Err(FarError::Away);

@@ -8,7 +8,7 @@ ghost use Rattle.merkle_search_tree.specs.Items.{lent_gap};
 ghost use Rattle.merkle_tree_theory.specs.State.{map_of};
 ghost use Rattle.merkle_wire.specs.ItsRows.{ForRowsOf, Kept, digests_of};
 ghost use Rattle.merkle_wire.specs.Sessions.{IsKeyOf};
-ghost use Rattle.merkle_wire.specs.Taking.{HasPageAt};
+ghost use Rattle.merkle_wire.specs.Taking.{HasPageAt, is_digest};
 
 use merkle_digest::{Digest, Hasher, Key, PageDigest, ValueDigest};
 use merkle_replica::{Join, Replica, RowHasher};
@@ -53,6 +53,12 @@ pub trait KeptTree<const N: usize, K: Key, V: Join, H: RowHasher<N, K, V>> {
     /// A key of the tree, if it has one.
     fn some_key(&mut self) -> Result<Option<K>, Self::Error>
         ensures key { is_sound self.new → IfOk result (IsOption (IsKeyOf K.cmp (kept self.old).digests.map)) }
+        ensures kept { is_sound self.new → kept self.new ≡ kept self.old }
+        ensures steady { is_sound self.new → is_sound self.old };
+
+    /// Whether the tree has the key with this digest of its value. [`is_digest`](crate::is_digest) tells it by what [`digest_at`](Self::digest_at) returns.
+    fn has_digest(&mut self, key: &K, digest: &[u8]) -> Result<bool, Self::Error>
+        ensures has { is_sound self.new → IfOk result (λ has. has ≡ is_digest (get K.cmp (kept self.old).digests.map key.now) digest.now) }
         ensures kept { is_sound self.new → kept self.new ≡ kept self.old }
         ensures steady { is_sound self.new → is_sound self.old };
 
@@ -101,6 +107,13 @@ impl<const N: usize, K: Key + Drop, V: Join + Drop, H: RowHasher<N, K, V>> KeptT
         first_key(self)
     }
 
+    fn has_digest(&mut self, key: &K, digest: &[u8]) -> Result<bool, AllocError> {
+        match self.value_hash(key) {
+            None => Ok(false),
+            Some(own) => Ok(own.as_bytes().as_slice() == digest),
+        }
+    }
+
     fn digest_at(&mut self, key: &K) -> Result<Option<ValueDigest<N>>, AllocError> {
         match self.value_hash(key) {
             None => Ok(None),
@@ -141,6 +154,13 @@ impl<const N: usize, K: Key + Drop, V: Join + Drop, H: RowHasher<N, K, V>> KeptT
 
     fn some_key(&mut self) -> Result<Option<K>, AllocError> {
         first_key(self.tree())
+    }
+
+    fn has_digest(&mut self, key: &K, digest: &[u8]) -> Result<bool, AllocError> {
+        match self.tree().value_hash(key) {
+            None => Ok(false),
+            Some(own) => Ok(own.as_bytes().as_slice() == digest),
+        }
     }
 
     fn digest_at(&mut self, key: &K) -> Result<Option<ValueDigest<N>>, AllocError> {

@@ -44,5 +44,6 @@ pub use session::{
 };
 pub use session_error::{SessionError, TakeError};
 pub use settings::{Settings, are_settings_of};
+pub use sifting::is_digest;
 pub use wanted::Wanted;
 pub use within::rows_ascend;

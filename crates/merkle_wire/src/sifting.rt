@@ -9,8 +9,13 @@ use crate::wanted::Wanted;
 use merkle_digest::{Key, PageDigest, Sip24, ValueDigest};
 use merkle_replica::{Join, RowHasher};
 
-/// Whether the digest is there and is this one.
-fn is_digest<const N: usize>(own: &Option<ValueDigest<N>>, digest: &[u8]) -> bool
+/// Whether the digest is there and is this one: [`KeptTree::has_digest`] by what [`KeptTree::digest_at`] returns.
+///
+/// ```rust crates/store_side/src/tree_side.rt
+/// let own = find_digest(self.alloc, &mut self.trees, &self.digests, key)?;
+/// Ok(is_digest(&own, digest))
+/// ```
+pub fn is_digest<const N: usize>(own: &Option<ValueDigest<N>>, digest: &[u8]) -> bool
     ensures { result ≡ is_digest own.now digest.now }
 {
     match own {
@@ -32,8 +37,7 @@ pub(crate) fn has_digest<
     ensures kept { T.is_sound tree.new → T.kept tree.new ≡ T.kept tree.old }
     ensures steady { T.is_sound tree.new → T.is_sound tree.old }
 {
-    let own = tree.digest_at(key)?;
-    Ok(is_digest(&own, digest))
+    tree.has_digest(key, digest)
 }
 
 /// Whether the keys of all nodes are there, and the digest of the digests of their values is this one.

@@ -10,7 +10,7 @@ use crate::told::{add_latest, add_page, add_rows};
 use merkle_digest::{Digest, Hasher, PageDigest, SipHasher, ValueDigest, default_level_base};
 use merkle_search_tree::Gap;
 use merkle_search_tree::builder::PageFormat;
-use merkle_wire::{KeptSide, KeptTree, OwnedGap, Settings, Telling, are_settings_of};
+use merkle_wire::{KeptSide, KeptTree, OwnedGap, Settings, Telling, are_settings_of, is_digest};
 use sqlite_trees::store::Store;
 use std::alloc::Global;
 use std::marker::Model;
@@ -98,6 +98,11 @@ impl<S: Store> KeptTree<DIGEST_LEN, String, Register, SipHasher> for FileTree<S>
 
     fn some_key(&mut self) -> Result<Option<String>, TreeFault> {
         find_key(self.alloc, &mut self.trees, &self.digests)
+    }
+
+    fn has_digest(&mut self, key: &String, digest: &[u8]) -> Result<bool, TreeFault> {
+        let own = find_digest(self.alloc, &mut self.trees, &self.digests, key)?;
+        Ok(is_digest(&own, digest))
     }
 
     fn digest_at(&mut self, key: &String) -> Result<Option<ValueDigest<DIGEST_LEN>>, TreeFault> {
