@@ -17,5 +17,5 @@ returns-clause-has g c = rw g.met.H.RowHasher.laws_are (λ sound.
     IfOk-weaker c.has_digest.result (λ has. has ≡ is_digest (get g.K.Ord.cmp tree.map key) digest)
     (λ has. ForRowsOf laws tree (λ local. has ≡ has_digest laws local key digest))
     (λ has is rows kept. is ∙ ap (λ found. is_digest found digest)
-        (same_get g.K.Ord.cmp g.met.K.Ord.total tree.map (tree_map laws (side_of tree rows)) kept key))
+    (same_get g.K.Ord.cmp g.met.K.Ord.total tree.map (tree_map laws (side_of tree rows)) kept key))
     (c.has_digest.ensures.has sound))
