@@ -5,7 +5,7 @@ ghost use Rattle.sqlite_value.specs.Order.{column, value_cmp};
 ghost use Rattle.sqlite_value.specs.declared.value.Value.TheVariants.{Text as Words};
 ghost use Rattle.store_file.specs.Faults.{IsFailure, IsUnwritten};
 ghost use Rattle.store_file.specs.Latest.{said_by, IsLastRow, IsLatestAt, IsThere, IsWrittenLate, HasWriteOver, WritesOver, Removes};
-ghost use Rattle.store_file.specs.Logs.{HasEntryTable, IsClean, IsLog, IsOpen, IsSteady, Finds, MakesAndFinds, Refuses, StaysInErr, Leaves, OnlyReads, Writes};
+ghost use Rattle.store_file.specs.Logs.{HasEntryTable, IsClean, IsOpen, IsSteady, Finds, MakesAndFinds, Refuses, StaysInErr, Leaves, OnlyReads, Writes};
 ghost use Rattle.store_file.specs.Registers.{time_after, HasLastTime};
 ghost use Rattle.store_file.specs.Transactions.{CommitsNothing};
 ghost use Rattle.store_file.specs.Walks.{StaysBut, MakesView};
@@ -76,27 +76,6 @@ pub fn latest_at<S: Store>(
     Ok(Some(entry.1))
 }
 
-/// The latest register that a log has for a key, if it has one, by the trees of the log: a removal too. It takes what [`find`] takes.
-///
-/// # Errors
-///
-/// [`StoreFault::Database`], [`StoreFault::Malformed`] and [`StoreFault::Memory`]. Nothing is written.
-pub fn find_in<S: Store>(
-    alloc: Global,
-    trees: &mut S,
-    key: &str,
-) -> Result<Option<Register>, StoreFault>
-    requires log { IsLog S.Store trees.old }
-    ensures log { IsLog S.Store trees.new }
-    ensures latest { Finds S.Store trees.old trees.new result (λ old. IsLatestAt old key.now) }
-    ensures failed { IfErr result IsFailure }
-    ensures reads { OnlyReads S.Store trees.old trees.new result }
-    ensures was_open { IsClean S.Store trees.new → IsOpen S.Store trees.new → IsOpen S.Store trees.old }
-{
-    let found = latest_at(alloc, trees, key);
-    settled(trees, found)
-}
-
 /// The latest register that the log has for a key, if it has one: a removal too. It takes the time of one look into a tree, logarithmic in the
 /// log, and memory for one row.
 ///
@@ -116,8 +95,10 @@ pub fn find<S: Store>(
     ensures latest { Finds S.Store log.old log.new result (λ trees found. IsLatestAt trees key.now found) }
     ensures failed { IfErr result IsFailure }
     ensures reads { OnlyReads S.Store log.old log.new result }
+    ensures was_open { IsClean S.Store log.new → IsOpen S.Store log.new → IsOpen S.Store log.old }
 {
-    find_in(alloc, &mut log.trees, key)
+    let found = latest_at(alloc, &mut log.trees, key);
+    settled(&mut log.trees, found)
 }
 
 /// What a register says: a value, or none where there is no register or a removal.

@@ -16,7 +16,7 @@ pub(crate) const CURSOR: u16 = 0;
 /// it but where the file's own contract says so.
 #[derive(Drop)]
 pub struct Log<S: Store> {
-    pub(crate) trees: S,
+    pub trees: S,
 }
 
 impl<S: Store> Model for Log<S> {

@@ -4,14 +4,14 @@ ghost use Rattle.std.specs.Option.{option_copied};
 ghost use Rattle.key_order.specs.Text.{text_order};
 ghost use Rattle.key_order.specs.Map.{IsMap, get};
 ghost use Rattle.key_order.specs.Places.{IsPlaceOf, IsGapFor};
-ghost use Rattle.store_file.specs.Logs.{IsClean, IsLog, IsOpen, Finds, MakesAndFinds, Refuses, OnlyReads, Writes};
+ghost use Rattle.store_file.specs.Logs.{IsClean, IsOpen, Finds, MakesAndFinds, Refuses, OnlyReads, Writes};
 ghost use Rattle.store_file.specs.Faults.{IsFailure, IsUnwritten};
 ghost use Rattle.store_file.specs.Rows.{AreLatest, HasLatestRows, HasLateRow, IsCompacted, stays};
 
 use crate::fault::StoreFault;
 use crate::log::Log;
 use crate::register::Register;
-use crate::table::{Entries, read_in, replace_all};
+use crate::table::{Entries, read_log, replace_all};
 use sqlite_trees::store::Store;
 use std::alloc::Global;
 use std::cmp::Ordering;
@@ -48,24 +48,9 @@ pub fn read_latest<S: Store>(alloc: Global, log: &mut Log<S>) -> Result<Entries,
     ensures latest { Finds S.Store log.old log.new result (λ trees rows. HasLatestRows trees rows.items) }
     ensures failed { IfErr result IsFailure }
     ensures reads { OnlyReads S.Store log.old log.new result }
+    ensures was_open { IsClean S.Store log.new → IsOpen S.Store log.new → IsOpen S.Store log.old }
 {
-    read_latest_in(alloc, &mut log.trees)
-}
-
-/// Each key of a log with its latest register, by the trees of the log. It takes what [`read_latest`] takes.
-///
-/// # Errors
-///
-/// [`StoreFault::Database`], [`StoreFault::Malformed`] and [`StoreFault::Memory`]. Nothing is written.
-pub fn read_latest_in<S: Store>(alloc: Global, trees: &mut S) -> Result<Entries, StoreFault>
-    requires log { IsLog S.Store trees.old }
-    ensures log { IsLog S.Store trees.new }
-    ensures latest { Finds S.Store trees.old trees.new result (λ old rows. HasLatestRows old rows.items) }
-    ensures failed { IfErr result IsFailure }
-    ensures reads { OnlyReads S.Store trees.old trees.new result }
-    ensures was_open { IsClean S.Store trees.new → IsOpen S.Store trees.new → IsOpen S.Store trees.old }
-{
-    Ok(latest_rows(read_in(alloc, trees)?))
+    Ok(latest_rows(read_log(alloc, log)?))
 }
 
 /// Where the key is among ascending rows, or where it would go.

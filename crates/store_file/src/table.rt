@@ -3,7 +3,7 @@ ghost use Rattle.std.specs.Prelude.{◌≡◌, ◌≤◌, ◌^◌, [], IfErr, Is
 ghost use Rattle.store_file.specs.Changes.{KeepsOtherTables, HasInstead, HasOneMore, HasEntriesMore, HasEntriesInstead};
 ghost use Rattle.store_file.specs.Entries.{HoldsEntries};
 ghost use Rattle.store_file.specs.Faults.{IsFailure, IsUnwritten};
-ghost use Rattle.store_file.specs.Logs.{HasEntryTable, HasTables, IsClean, IsLog, IsOpen, Finds, Makes, OnlyReads, Writes};
+ghost use Rattle.store_file.specs.Logs.{HasEntryTable, HasTables, IsClean, IsOpen, Finds, Makes, OnlyReads, Writes};
 ghost use Rattle.store_file.specs.Registers.{HaveLateTime};
 ghost use Rattle.store_file.specs.Transactions.{CommitsNothing};
 
@@ -34,25 +34,10 @@ pub fn read_log<S: Store>(alloc: Global, log: &mut Log<S>) -> Result<Entries, St
     ensures held { Finds S.Store log.old log.new result (λ trees entries. HoldsEntries trees entries.items) }
     ensures failed { IfErr result IsFailure }
     ensures reads { OnlyReads S.Store log.old log.new result }
+    ensures was_open { IsClean S.Store log.new → IsOpen S.Store log.new → IsOpen S.Store log.old }
 {
-    read_in(alloc, &mut log.trees)
-}
-
-/// The entries of a log by its trees, ascending as [`read_log`] has them. It takes what that takes.
-///
-/// # Errors
-///
-/// [`StoreFault::Database`], [`StoreFault::Malformed`] and [`StoreFault::Memory`]. Nothing is written.
-pub(crate) fn read_in<S: Store>(alloc: Global, trees: &mut S) -> Result<Entries, StoreFault>
-    requires log { IsLog S.Store trees.old }
-    ensures log { IsLog S.Store trees.new }
-    ensures held { Finds S.Store trees.old trees.new result (λ old entries. HoldsEntries old entries.items) }
-    ensures failed { IfErr result IsFailure }
-    ensures reads { OnlyReads S.Store trees.old trees.new result }
-    ensures was_open { IsClean S.Store trees.new → IsOpen S.Store trees.new → IsOpen S.Store trees.old }
-{
-    let read = all_entries(alloc, trees);
-    settled(trees, read)
+    let read = all_entries(alloc, &mut log.trees);
+    settled(&mut log.trees, read)
 }
 
 /// Adds an entry within a transaction, unless it is there. It takes the time of an insertion.

@@ -2,7 +2,7 @@
 ghost use Rattle.std.specs.Prelude.{◌≡◌, ◌≤◌, ◌^◌, ℕ, List, [], length, IfErr, IsErrOf, string_bytes};
 ghost use Rattle.store_file.specs.Changes.{HasInstead, HasOneMore};
 ghost use Rattle.store_file.specs.Faults.{IsFailure, IsUnwritten};
-ghost use Rattle.store_file.specs.Logs.{HasTables, IsClean, IsLog, Makes, MakesAndFinds, Refuses, Writes};
+ghost use Rattle.store_file.specs.Logs.{HasTables, IsClean, Makes, MakesAndFinds, Refuses, Writes};
 ghost use Rattle.store_file.specs.Registers.{HaveLateTime};
 ghost use Rattle.store_file.specs.Rows.{HasLateRow, IsCompacted};
 ghost use Rattle.store_file.specs.Transactions.{CommitsNothing};
@@ -17,8 +17,8 @@ use merkle_digest::{Hasher, SipHasher, default_level_base, level};
 use sqlite_trees::store::Store;
 use std::alloc::Global;
 use store_file::format::HASH_KEY_LEN;
-use store_file::log::commit;
-use store_file::rows::{forget, read_latest_in};
+use store_file::log::{Log, commit};
+use store_file::rows::{forget, read_latest};
 use store_file::table::{add_at, clear_at};
 use store_file::{Register, StoreFault};
 use store_tree::table::has_table;
@@ -176,7 +176,7 @@ fn put_each<S: Store>(
 /// of an insertion and of a [`write`](store_tree::write::write) to the tree for each entry, and of one commit.
 ///
 /// ```rust crates/store_side_tests/src/logs.rt
-/// Write::Add(entries) => add_all(alloc, trees, hash_key, entries)?,
+/// Write::Add(entries) => add_all(alloc, log, hash_key, entries)?,
 /// ```
 ///
 /// # Errors
@@ -185,19 +185,17 @@ fn put_each<S: Store>(
 /// or there is no table of cells, and [`StoreFault::Memory`].
 pub fn add_all<S: Store>(
     alloc: Global,
-    trees: &mut S,
+    log: &mut Log<S>,
     hash_key: &[u8; HASH_KEY_LEN],
     entries: &[(String, Register)],
 ) -> Result<(), StoreFault>
-    requires log { IsLog S.Store trees.old }
-    ensures log { IsLog S.Store trees.new }
-    ensures added { Writes S.Store trees.old trees.new result (AddsInStep hash_key.now entries.now) }
-    ensures stands { StandsInStep S.Store hash_key.now trees.old → StandsInStep S.Store hash_key.now trees.new }
+    ensures added { Writes S.Store log.old log.new result (AddsInStep hash_key.now entries.now) }
+    ensures stands { StandsInStep S.Store hash_key.now log.old → StandsInStep S.Store hash_key.now log.new }
     ensures late { IsErrOf result StoreFault.Time → HaveLateTime entries.now }
     ensures faults { IfErr result IsUnwritten }
 {
-    let written = add_each(alloc, trees, &SipHasher::new(hash_key), entries);
-    commit(trees, written)
+    let written = add_each(alloc, &mut log.trees, &SipHasher::new(hash_key), entries);
+    commit(&mut log.trees, written)
 }
 
 /// Puts entries in place of all others, and their keys in place of all others in the tree, all or nothing: the log and its tree are in step then, however
@@ -210,19 +208,17 @@ pub fn add_all<S: Store>(
 /// or there is no table of cells, and [`StoreFault::Memory`].
 pub fn replace_all<S: Store>(
     alloc: Global,
-    trees: &mut S,
+    log: &mut Log<S>,
     hash_key: &[u8; HASH_KEY_LEN],
     entries: &[(String, Register)],
 ) -> Result<(), StoreFault>
-    requires log { IsLog S.Store trees.old }
-    ensures log { IsLog S.Store trees.new }
-    ensures replaced { Writes S.Store trees.old trees.new result (PutsInStep hash_key.now entries.now) }
-    ensures stands { StandsInStep S.Store hash_key.now trees.old → StandsInStep S.Store hash_key.now trees.new }
+    ensures replaced { Writes S.Store log.old log.new result (PutsInStep hash_key.now entries.now) }
+    ensures stands { StandsInStep S.Store hash_key.now log.old → StandsInStep S.Store hash_key.now log.new }
     ensures late { IsErrOf result StoreFault.Time → HaveLateTime entries.now }
     ensures faults { IfErr result IsUnwritten }
 {
-    let written = put_each(alloc, trees, &SipHasher::new(hash_key), entries);
-    commit(trees, written)
+    let written = put_each(alloc, &mut log.trees, &SipHasher::new(hash_key), entries);
+    commit(&mut log.trees, written)
 }
 
 /// Leaves one entry for each key, and none for a removal that is older than `before`, in the log and in its tree, and returns how many are left: the log and
@@ -234,21 +230,19 @@ pub fn replace_all<S: Store>(
 /// as it was.
 pub fn compact<S: Store>(
     alloc: Global,
-    trees: &mut S,
+    log: &mut Log<S>,
     hash_key: &[u8; HASH_KEY_LEN],
     before: u64,
 ) -> Result<usize, StoreFault>
-    requires log { IsLog S.Store trees.old }
-    ensures log { IsLog S.Store trees.new }
-    ensures compacted { Writes S.Store trees.old trees.new result (IsCompacted before) }
-    ensures in_step { Writes S.Store trees.old trees.new result (λ _. IsInStep hash_key.now) }
-    ensures left { MakesAndFinds S.Store trees.old trees.new result (λ _ new left. left ≡ length (new 0)) }
-    ensures stands { StandsInStep S.Store hash_key.now trees.old → StandsInStep S.Store hash_key.now trees.new }
-    ensures late { Refuses S.Store trees.old trees.new result StoreFault.Time HasLateRow }
+    ensures compacted { Writes S.Store log.old log.new result (IsCompacted before) }
+    ensures in_step { Writes S.Store log.old log.new result (λ _. IsInStep hash_key.now) }
+    ensures left { MakesAndFinds S.Store log.old log.new result (λ _ new left. left ≡ length (new 0)) }
+    ensures stands { StandsInStep S.Store hash_key.now log.old → StandsInStep S.Store hash_key.now log.new }
+    ensures late { Refuses S.Store log.old log.new result StoreFault.Time HasLateRow }
     ensures faults { IfErr result IsUnwritten }
 {
-    let mut rows = read_latest_in(alloc, trees)?;
+    let mut rows = read_latest(alloc, log)?;
     forget(&mut rows, before);
-    replace_all(alloc, trees, hash_key, &rows)?;
+    replace_all(alloc, log, hash_key, &rows)?;
     Ok(rows.len())
 }

@@ -103,45 +103,41 @@ pub const WRITER: &str = "key 1";
 /// Writes a value under a key, or removes it where there is none, and returns whether the key was there if it is removed.
 fn set_key<S: Store>(
     alloc: Global,
-    trees: &mut S,
+    log: &mut Log<S>,
     hash_key: &[u8; HASH_KEY_LEN],
     key: &String,
     now: u64,
     value: &Option<Value>,
 ) -> Result<bool, StoreFault>
-    requires log { IsLog S.Store trees.old }
-    ensures log { IsLog S.Store trees.new }
-    ensures stands { StandsInStep S.Store hash_key.now trees.old → StandsInStep S.Store hash_key.now trees.new }
+    ensures stands { StandsInStep S.Store hash_key.now log.old → StandsInStep S.Store hash_key.now log.new }
 {
     let writer = String::from_str(alloc, WRITER)?;
     let key = key.clone()?;
     let Some(value) = value else {
-        return remove(alloc, trees, hash_key, writer, now, key);
+        return remove(alloc, log, hash_key, writer, now, key);
     };
     let value = value.clone()?;
-    put(alloc, trees, hash_key, writer, now, key, value)?;
+    put(alloc, log, hash_key, writer, now, key, value)?;
     Ok(false)
 }
 
 /// Makes a write to a log, and to the tree beside it, and returns what the call tells: how many entries are left, or 1 where a removed key was there; else 0.
 fn make_write<S: Store>(
     alloc: Global,
-    trees: &mut S,
+    log: &mut Log<S>,
     hash_key: &[u8; HASH_KEY_LEN],
     write: &Write,
 ) -> Result<usize, StoreFault>
-    requires log { IsLog S.Store trees.old }
-    ensures log { IsLog S.Store trees.new }
-    ensures stands { StandsInStep S.Store hash_key.now trees.old → StandsInStep S.Store hash_key.now trees.new }
+    ensures stands { StandsInStep S.Store hash_key.now log.old → StandsInStep S.Store hash_key.now log.new }
 {
     match write {
-        Write::Add(entries) => add_all(alloc, trees, hash_key, entries)?,
-        Write::Replace(entries) => replace_all(alloc, trees, hash_key, entries)?,
+        Write::Add(entries) => add_all(alloc, log, hash_key, entries)?,
+        Write::Replace(entries) => replace_all(alloc, log, hash_key, entries)?,
         Write::Set(key, now, value) => {
-            let was = set_key(alloc, trees, hash_key, key, *now, value)?;
+            let was = set_key(alloc, log, hash_key, key, *now, value)?;
             return Ok(usize::from(was));
         }
-        Write::Compact(before) => return compact(alloc, trees, hash_key, *before),
+        Write::Compact(before) => return compact(alloc, log, hash_key, *before),
     }
     Ok(0)
 }
@@ -155,25 +151,29 @@ pub fn write_and_ask<S: Store + Drop>(
     write: &Write,
     gap: &(Option<String>, Option<String>),
 ) -> Result<(Log<S>, Told, usize), Fail> {
-    let mut trees = log.into_trees();
-    let count = make_write(alloc, &mut trees, hash_key, write)?;
-    let (log, told) = ask(rt, alloc, trees, &LatestDigests::new(hash_key), gap)?;
+    let mut log = log;
+    let count = make_write(alloc, &mut log, hash_key, write)?;
+    let (log, told) = ask(
+        rt,
+        alloc,
+        log.into_trees(),
+        &LatestDigests::new(hash_key),
+        gap,
+    )?;
     Ok((log, told, count))
 }
 
 /// Makes writes to a log, and to the tree beside it, one after the other.
 fn make_writes<S: Store>(
     alloc: Global,
-    trees: &mut S,
+    log: &mut Log<S>,
     hash_key: &[u8; HASH_KEY_LEN],
     writes: &[Write],
 ) -> Result<(), StoreFault>
-    requires log { IsLog S.Store trees.old }
-    ensures log { IsLog S.Store trees.new }
-    ensures stands { StandsInStep S.Store hash_key.now trees.old → StandsInStep S.Store hash_key.now trees.new }
+    ensures stands { StandsInStep S.Store hash_key.now log.old → StandsInStep S.Store hash_key.now log.new }
 {
     'writes: for write in writes {
-        make_write(alloc, trees, hash_key, write)?;
+        make_write(alloc, log, hash_key, write)?;
     }
     Ok(())
 }
@@ -201,8 +201,8 @@ pub fn side_after<S: Store + Drop>(
     hash_key: &[u8; HASH_KEY_LEN],
     writes: &[Write],
 ) -> Result<Option<FileTree<S>>, StoreFault> {
-    let mut trees = log.into_trees();
-    replace_all(alloc, &mut trees, hash_key, &[])?;
-    make_writes(alloc, &mut trees, hash_key, writes)?;
-    Ok(side_of(alloc, trees, hash_key))
+    let mut log = log;
+    replace_all(alloc, &mut log, hash_key, &[])?;
+    make_writes(alloc, &mut log, hash_key, writes)?;
+    Ok(side_of(alloc, log.into_trees(), hash_key))
 }

@@ -7,7 +7,7 @@ use Rattle.store_rows.proofs.latest.put.Goals as goal
 
 pub returns-clause-written : goal.returns-clause-written
 returns-clause-written g c =
-    writes_then g.S.Store c.args.trees.now c.find_in.new.trees c.write_over.new.trees
+    writes_then g.S.Store c.args.log.now c.find.new.log c.write_over.new.log
     (AddsInStep c.args.hash_key.now (entry_over c.in_ok-found.found (c.args.key, record { time = c.args.now; writer = c.args.writer; value = Some c.args.value }) ∷ []))
     (WritesOver (string_bytes c.args.key) c.args.writer c.args.now (Some c.args.value))
     (λ clean trees adds. (c.in_ok-found.found, rw c.as_str.ensures.value at (c.in_ok-found.ensures.latest clean), adds.more))

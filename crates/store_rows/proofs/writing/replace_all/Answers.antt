@@ -4,13 +4,15 @@ use Rattle.store_rows.proofs.writing.replace_all.Goals as goal
 
 pub returns-clause-replaced : goal.returns-clause-replaced
 returns-clause-replaced g c =
-    let old = c.args.trees.now in
+    let old = c.args.log.now in
+    let did = c.put_each-written.ensures in
     lands g.S.Store old c.put_each-written.new.trees c.commit.new.trees c.put_each-written.result c.commit.result (PutsInStep c.args.hash_key.now c.args.entries.now)
-    (rw c.new.ensures at c.put_each-written.ensures.put) (c.commit.ensures.written old c.requires.log c.put_each-written.ensures.uncommitted)
+    (rw (c.new.ensures, c.log.view_is) at did.put) (c.commit.ensures.written old (rw c.log.view_is at c.log.invariant) (rw c.log.view_is at did.uncommitted))
 
 pub returns-clause-stands : goal.returns-clause-stands
 returns-clause-stands g c stood clean opened =
     let did = c.commit.ensures in
     let hash_key = c.args.hash_key.now in
-    stands_on g.S.Store c.args.trees.now c.put_each-written.new.trees c.commit.new.trees c.put_each-written.ensures.uncommitted did.steady did.was_open (IsInStep hash_key) stood clean opened
+    let uncommitted = rw c.log.view_is at c.put_each-written.ensures.uncommitted in
+    stands_on g.S.Store c.args.log.now c.put_each-written.new.trees c.commit.new.trees uncommitted did.steady did.was_open (IsInStep hash_key) stood clean opened
     c.commit.result (PutsInStep hash_key c.args.entries.now) (returns-clause-replaced g c) (λ put _. put.in_step)
