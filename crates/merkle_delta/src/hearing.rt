@@ -21,7 +21,7 @@ const FEWEST: usize = 64;
 /// ```rust crates/merkle_store/src/fetching.rt
 /// match deltas.hear(alloc, reply)? {
 ///     Heard::Again(question) => message = question,
-///     Heard::Reply(plain) => match session.take(replica, &plain)? {
+///     Heard::Reply(plain) => match take(side, session, count, &plain)? {
 /// ```
 #[derive(Drop)]
 pub struct Deltas {

@@ -13,9 +13,11 @@ use std::alloc::{AllocError, Global};
 /// of the answer what the peer is sent.
 ///
 /// ```rust crates/merkle_store/src/serving.rt
-/// let (checksums, question) = read_message(alloc, message)?;
-/// let plain = answer_plainly(alloc, replica, question)?;
-/// Ok(tell(alloc, checksums, plain)?)
+/// let plain = answer_by(alloc, side, &(), question, ANSWER_BYTES)?;
+/// match tell(alloc, checksums, plain) {
+///     Ok(reply) => Ok(reply),
+///     Err(error) => Err(KeptError::Answer(AnswerError::from(error))),
+/// }
 /// ```
 ///
 /// # Errors

@@ -7,3 +7,4 @@ pub mod Found
 pub mod Messages
 pub mod Exchanged
 pub mod Bringing
+pub mod Asked

@@ -5,7 +5,7 @@ use Rattle.key_order.specs.Text.{Text}
 use Rattle.store_file.specs.Values.{bytes_of_value}
 use Rattle.store_file.specs.declared.register.Register.{Register}
 use Rattle.merkle_store.specs.Framing.{Streams}
-use Rattle.merkle_store.specs.News.{later_entries, AreTimely}
+use Rattle.merkle_store.specs.News.{AreTimely}
 use Rattle.merkle_store.specs.Sessions.{CatchesUp, EntryContents}
 use Rattle.merkle_store.specs.declared.fetching.Fetched.{Fetched}
 use Rattle.merkle_store.specs.declared.fetching.Terms.{Terms}
@@ -25,11 +25,12 @@ IsAtMost most count = IfSome most (λ most. count ≤ most)
 abbrev pub EntriesCame : ℕ → EntryContents → Streams → Streams → Vec (Text × Register) × Traffic → Type 0
 EntriesCame most replica before after came = CatchesUp replica most before after came.0.items
 
--- entries came of a catch-up over the streams, each short and none from the future; it says how many, and which of them are later than what the replica has
-pub record HasFetched (terms : Terms) (replica : EntryContents) (before after : Streams) (fetched : Fetched) : Type 0 where
-  pub came : List (Text × Register)
-  pub caught_up : CatchesUp replica terms.most_bytes before after came
-  pub short : All IsShortEntry came
-  pub timely : AreTimely terms.latest came
-  pub count : fetched.came ≡ length came
-  pub news : fetched.news.items ≡ later_entries replica.rows came
+-- each of the entries is short, and none from the future
+pub record AreFit (latest : ℕ) (entries : List (Text × Register)) : Type 0 where
+  pub short : All IsShortEntry entries
+  pub timely : AreTimely latest entries
+
+-- the entries came of a catch-up over the streams, and are fit
+pub record HasFetched (terms : Terms) (side : EntryContents) (before after : Streams) (fetched : Fetched) : Type 0 where
+  pub caught_up : CatchesUp side terms.most_bytes before after fetched.came.items
+  pub fit : AreFit terms.latest fetched.came.items

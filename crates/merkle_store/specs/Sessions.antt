@@ -1,5 +1,5 @@
 -- A catch-up of a replica of entries with a peer, over two streams, and what a peer answers over them.
-use Rattle.std.specs.Prelude.{ℕ, ◌≤◌, Bool, true, false, List, [], length, Option, string_bytes}
+use Rattle.std.specs.Prelude.{◌≡◌, ℕ, ◌≤◌, Bool, true, false, List, [], length, Option, string_bytes}
 use Rattle.std.specs.Global.{Vec}
 use Rattle.std.specs.Io.KnownBytes.{Appends, Consumes}
 use Rattle.std.specs.List.{AllByRecursion, flat_map}
@@ -11,8 +11,11 @@ use Rattle.merkle_digest.specs.SipHash.{siphash128}
 use Rattle.merkle_replica.specs.Contents.{Contents, side}
 use Rattle.merkle_replica.specs.Faithful.{HasSmallMap}
 use Rattle.merkle_replica.specs.Laws.{Laws}
+use Rattle.merkle_wire.specs.ItsRows.{AreDigestsOf, Digests, ForRowsOf, side_of}
+use Rattle.merkle_wire.specs.Next.{IsNext}
 use Rattle.merkle_wire.specs.Sessions.{AreBrought}
 use Rattle.merkle_wire.specs.Underway.{Underway}
+use Rattle.merkle_wire.specs.declared.catching_up.Next.{Next}
 use Rattle.store_file.specs.RegisterBytes.{register_bytes}
 use Rattle.store_file.specs.WireRegisters.{register_encoding}
 use Rattle.store_file.specs.declared.register.Register.{Register}
@@ -39,6 +42,19 @@ entry_laws = record {
 -- a key in a message: how many bytes there are, and the bytes
 abbrev pub text_key_encoding : Text → List ℕ
 text_key_encoding key = string_encoding (string_bytes key)
+
+-- a side asks by these digests: they are those of its rows, under the settings of its tree
+pub record AsksByRows (own : Digests Text (List ℕ)) (contents : EntryContents) : Type 0 where
+  pub digests : AreDigestsOf entry_laws own contents.rows
+  pub settings : side_of own contents.rows ≡ side contents
+
+-- a catch-up of the side begins so, with this question
+abbrev pub CatchUpBegins : EntryContents → Underway Text Register → List ℕ → Type 0
+CatchUpBegins = BeginsCatchUp entry_laws 16 text_key_encoding
+
+-- whatever rows these are the digests of, the reply is taken in a catch-up of them, and this comes next
+abbrev pub Takes : Digests Text (List ℕ) → Underway Text Register → List ℕ → Next Text Register → Type 0
+Takes own session reply next = ForRowsOf entry_laws own (λ local. IsNext entry_laws 16 text_key_encoding register_encoding local session reply next)
 
 -- a replica answers a message
 abbrev pub AnswersMessage : EntryContents → EntryContents → List ℕ → Vec ℕ → Type 0
@@ -80,7 +96,7 @@ AsksNoMore true before after = Consumes before after (frame_of [])
 AsksNoMore false before after = HasEnded before after
 
 -- behind them a message of no bytes was read where that gives the turn to this side, and else nothing is left
-pub record HasServedTo (replica : EntryContents) (most : ℕ) (before after : Streams) (served : Served) : Type 0 where
+pub record ServesPeer (replica : EntryContents) (most : ℕ) (before after : Streams) (served : Served) : Type 0 where
   pub read : Option (List ℕ)
   pub answered : HasServed replica most before (after.0, read)
   pub ended : AsksNoMore served.is_turn read after.1

@@ -4,7 +4,7 @@ ghost use Rattle.std.specs.Prelude.{◌≡◌};
 use merkle_bytes::{Encode, Reader};
 use merkle_digest::{Key, PageDigest};
 use merkle_replica::{Join, RowHasher};
-use merkle_wire::{KeptSide, OwnedGap, Settings, Telling};
+use merkle_wire::{KeptReplica, KeptSide, OwnedGap, Settings, Telling};
 use std::alloc::Global;
 use std::marker::Model;
 
@@ -130,5 +130,17 @@ impl<
         self.side.add_part(beside, most_bytes, gap, bytes)?;
         self.count_at(bytes, begun);
         Ok(())
+    }
+}
+
+impl<
+    const N: usize,
+    K: Key + Encode,
+    V: Join + Encode,
+    H: RowHasher<N, K, V>,
+    S: KeptReplica<N, K, V, H>,
+> KeptReplica<N, K, V, H> for Counting<S> {
+    fn has_its_tree(&self) {
+        self.side.has_its_tree();
     }
 }

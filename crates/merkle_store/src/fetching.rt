@@ -1,20 +1,20 @@
-//! The asking side of a sync: what a peer has that is later, over a pair of pipes or a socket.
+//! The asking side of a sync: what a peer has that this side lacks, over a pair of pipes or a socket.
 ghost use Rattle.std.specs.Prelude.{◌≤◌, ◌≡◌, ◌↔◌, length, All, IsTrue, IfOk, OnOk};
 ghost use Rattle.std.specs.Io.KnownBytes.{Appends, Consumes};
 ghost use Rattle.merkle_delta.specs.Hearing.{IsSentFor};
-ghost use Rattle.merkle_tree_theory.specs.State.{SameSettings};
-ghost use Rattle.merkle_store.specs.Fetches.{EntriesCame, HasFetched, IsShortEntry, IsAtMost};
+ghost use Rattle.merkle_store.specs.Fetches.{AreFit, EntriesCame, HasFetched, IsShortEntry, IsAtMost};
 ghost use Rattle.merkle_store.specs.Framing.{frame_of};
 ghost use Rattle.merkle_store.specs.News.{AreTimely};
+ghost use Rattle.merkle_store.specs.Sessions.{AsksByRows, CatchUpBegins, Takes};
 
 use crate::fetch_fault::{FetchFault, Untaken};
 use crate::framing::{Watch, receive, send};
-use crate::news::news_of;
-use crate::rows::EntryReplica;
+use crate::session_fault::{SessionFault, untaken};
 use crate::traffic::Traffic;
 use crate::wire::WireFault;
 use merkle_delta::{Deltas, Heard};
-use merkle_wire::{CatchingUp, Limit, Limits, Next, SessionError};
+use merkle_digest::SipHasher;
+use merkle_wire::{AskingReplica, CatchingUp, Limit, Limits, Next, SessionError};
 use std::alloc::{AllocError, Global};
 use std::io::{Read, Write};
 use store_file::Register;
@@ -45,13 +45,11 @@ pub struct Terms {
     pub latest: u64,
 }
 
-/// What a peer has that the rows lack.
+/// What a peer has that a side lacks.
 #[derive(Debug, Drop)]
 pub struct Fetched {
-    /// The entries of the peer that are later than what the rows have for their keys, ascending by key.
-    pub news: Entries,
-    /// How many entries of the peer came.
-    pub came: usize,
+    /// The entries of the peer that came, ascending by key: at each key the side has none, or another.
+    pub came: Entries,
     /// What went over the wire.
     pub traffic: Traffic,
 }
@@ -94,58 +92,103 @@ fn limits_of(terms: &Terms) -> Limits {
     limits
 }
 
-/// The message for the next question of a catch-up: after the checksums of what the replica itself would reply, while the peer replies by deltas.
-fn message_for(
+/// Begins a catch-up of a side. Returns it with its message, and with about how many rows the side has.
+fn begin<S: AskingReplica<16, String, Register, SipHasher>>(
     alloc: Global,
-    replica: &mut EntryReplica,
+    side: &mut S,
+) -> Result<(CatchingUp<String, Register>, Vec<u8>, u64), SessionFault<WireFault, S::Error>>
+    ensures begins { S.is_sound side.new → IfOk result (λ begun. CatchUpBegins (S.whole side.old) begun.0 begun.1.items) }
+    ensures rows { S.is_sound side.new → OnOk result (AsksByRows (S.kept side.new).digests (S.whole side.old)) }
+    ensures kept { S.is_sound side.new → S.kept side.new ≡ S.kept side.old }
+    ensures steady { S.is_sound side.new → S.is_sound side.old }
+{
+    side.asks_by_its_rows();
+    let count = match side.row_count() {
+        Ok(count) => count,
+        Err(error) => return Err(SessionFault::Side(error)),
+    };
+    match CatchingUp::begin_by(alloc, side) {
+        Ok(begun) => {
+            let (session, message) = begun;
+            Ok((session, message, count))
+        }
+        Err(error) => Err(SessionFault::Side(error)),
+    }
+}
+
+/// What comes in a catch-up after a reply.
+fn take<S: AskingReplica<16, String, Register, SipHasher>>(
+    side: &mut S,
+    session: CatchingUp<String, Register>,
+    count: u64,
+    reply: &[u8],
+) -> Result<Next<String, Register>, SessionFault<WireFault, S::Error>>
+    ensures next { S.is_sound side.new → IfOk result (Takes (S.kept side.old).digests session reply.now) }
+    ensures kept { S.is_sound side.new → S.kept side.new ≡ S.kept side.old }
+    ensures steady { S.is_sound side.new → S.is_sound side.old }
+{
+    match session.take_by(side, count, reply) {
+        Ok(next) => Ok(next),
+        Err(error) => Err(untaken(error)),
+    }
+}
+
+/// The message for the next question of a catch-up: after the checksums of what the side itself would reply, while the peer replies by deltas.
+fn message_for<S: AskingReplica<16, String, Register, SipHasher>>(
+    alloc: Global,
+    side: &mut S,
     session: &CatchingUp<String, Register>,
     deltas: &mut Deltas,
     question: Vec<u8>,
-) -> Result<Vec<u8>, AllocError>
+) -> Result<Vec<u8>, SessionFault<WireFault, S::Error>>
     ensures sent { IfOk result (λ message. IsSentFor question.items deltas.new message.items) }
-    ensures rows { replica.new.rows ≡ replica.old.rows }
-    ensures settings { SameSettings replica.old.tree replica.new.tree }
+    ensures kept { S.is_sound side.new → S.kept side.new ≡ S.kept side.old }
+    ensures steady { S.is_sound side.new → S.is_sound side.old }
 {
     if !deltas.are_known() {
-        return deltas.ask(alloc, None, question);
+        return Ok(deltas.ask(alloc, None, question)?);
     }
-    let own = session.own_reply(replica, deltas.pay())?;
-    deltas.ask(alloc, own, question)
+    match side.own_reply_to(session, deltas.pay()) {
+        Ok(own) => Ok(deltas.ask(alloc, own, question)?),
+        Err(error) => Err(SessionFault::Side(error)),
+    }
 }
 
-/// The entries of a peer that a replica lacks, and what went over the wire.
-fn entries_of_peer<R: Read, W: Write, P: Watch>(
+/// The entries of a peer that a side lacks, and what went over the wire.
+fn entries_of_peer<S: AskingReplica<16, String, Register, SipHasher>, R: Read, W: Write, P: Watch>(
     alloc: Global,
-    replica: &mut EntryReplica,
+    side: &mut S,
     from: &mut R,
     to: &mut W,
-    terms: &Terms,
+    limits: Limits,
+    most: u64,
     watch: &mut P,
-) -> Result<(Entries, Traffic), WireFault>
-    ensures came { IfOk result (EntriesCame terms.now.most_bytes replica.old (W.contents to.old, R.remaining from.old) (W.contents to.new, R.remaining from.new)) }
-    ensures rows { replica.new.rows ≡ replica.old.rows }
-    ensures settings { SameSettings replica.old.tree replica.new.tree }
+) -> Result<(Entries, Traffic), SessionFault<WireFault, S::Error>>
+    ensures came { S.is_sound side.new → IfOk result (EntriesCame most (S.whole side.old)
+        (W.contents to.old, R.remaining from.old) (W.contents to.new, R.remaining from.new)) }
+    ensures kept { S.is_sound side.new → S.kept side.new ≡ S.kept side.old }
+    ensures steady { S.is_sound side.new → S.is_sound side.old }
 {
-    let (session, message) = CatchingUp::begin(alloc, replica)?;
-    let mut session = session.within(limits_of(terms));
+    let (session, message, count) = begin(alloc, side)?;
+    let mut session = session.within(limits);
     let mut message = message;
     let mut deltas = Deltas::new();
     let mut traffic = Traffic::none();
     'messages: for _ in 0..MOST_MESSAGES {
-        let reply = ask(alloc, from, to, terms.most_bytes, watch, &message)?;
+        let reply = ask(alloc, from, to, most, watch, &message)?;
         traffic = counted(&traffic, message.len(), reply.len())?;
         match deltas.hear(alloc, reply)? {
             Heard::Again(question) => message = question,
-            Heard::Reply(plain) => match session.take(replica, &plain)? {
+            Heard::Reply(plain) => match take(side, session, count, &plain)? {
                 Next::Ask(next, question) => {
-                    message = message_for(alloc, replica, &next, &mut deltas, question)?;
+                    message = message_for(alloc, side, &next, &mut deltas, question)?;
                     session = next;
                 }
                 Next::Came(entries) => return Ok((entries, traffic)),
             },
         }
     }
-    Err(WireFault::Endless)
+    Err(SessionFault::Session(WireFault::Endless))
 }
 
 /// Whether the key, the writer and the value of an entry are as short as they have to be.
@@ -194,9 +237,26 @@ fn expect_fit(alloc: Global, entries: &[(String, Register)], latest: u64) -> Res
     Ok(())
 }
 
-/// What a peer has that is later than the rows, all or none: the rows stay, and so does every file. If a reply has more bytes than the terms say, or
-/// more entries come, or one that isn't taken, it fails. Besides the catch-up it takes time linear in the entries that came, each of which is looked up
-/// among the rows by halving.
+/// Refuses entries that aren't taken.
+fn expect_taken(alloc: Global, terms: &Terms, entries: &Entries) -> Result<(), FetchFault>
+    ensures few { OnOk result (IsAtMost terms.now.most_entries (length entries.now.items)) }
+    ensures fit { OnOk result (AreFit terms.now.latest entries.now.items) }
+{
+    expect_few(entries.len(), terms.most_entries)?;
+    expect_fit(alloc, entries, terms.latest)
+}
+
+/// Why nothing was fetched, where the peer was not heard.
+fn unheard(fault: WireFault) -> FetchFault {
+    match fault {
+        WireFault::Reply(SessionError::Limit(Limit::Rows)) => FetchFault::TooMany,
+        fault => FetchFault::Wire(fault),
+    }
+}
+
+/// What a peer has that a side lacks, or has with another register, all or none, for a side that is kept anywhere, such as an
+/// [`EntryReplica`](crate::rows::EntryReplica). The rows stay. If a reply has more bytes than the terms say, or more entries come, or one that isn't
+/// taken, it fails. Besides the catch-up it takes time linear in the entries that came. [`news_of`](crate::news::news_of) finds those that are later.
 ///
 /// ```rust crates/mst/src/peers.rt
 /// let terms = terms_of(rt, limits)?;
@@ -213,33 +273,35 @@ fn expect_fit(alloc: Global, entries: &[(String, Register)], latest: u64) -> Res
 ///
 /// # Errors
 ///
-/// [`FetchFault`].
-pub fn fetch<R: Read, W: Write, P: Watch>(
+/// [`SessionFault`] of a [`FetchFault`].
+pub fn fetch<S: AskingReplica<16, String, Register, SipHasher>, R: Read, W: Write, P: Watch>(
     alloc: Global,
-    replica: &mut EntryReplica,
+    side: &mut S,
     terms: &Terms,
     from: &mut R,
     to: &mut W,
     watch: &mut P,
-) -> Result<Fetched, FetchFault>
-    ensures fetched { IfOk result (HasFetched terms.now replica.old (W.contents to.old, R.remaining from.old) (W.contents to.new, R.remaining from.new)) }
-    ensures few { IfOk result (λ fetched. IsAtMost terms.now.most_entries fetched.came) }
-    ensures rows { replica.new.rows ≡ replica.old.rows }
-    ensures settings { SameSettings replica.old.tree replica.new.tree }
+) -> Result<Fetched, SessionFault<FetchFault, S::Error>>
+    ensures fetched { S.is_sound side.new → IfOk result (HasFetched terms.now (S.whole side.old)
+        (W.contents to.old, R.remaining from.old) (W.contents to.new, R.remaining from.new)) }
+    ensures few { IfOk result (λ fetched. IsAtMost terms.now.most_entries (length fetched.came.items)) }
+    ensures kept { S.is_sound side.new → S.kept side.new ≡ S.kept side.old }
+    ensures steady { S.is_sound side.new → S.is_sound side.old }
 {
-    let (entries, traffic) = match entries_of_peer(alloc, replica, from, to, terms, watch) {
-        Ok(came) => came,
-        Err(WireFault::Reply(SessionError::Limit(Limit::Rows))) => {
-            return Err(FetchFault::TooMany);
+    match entries_of_peer(
+        alloc,
+        side,
+        from,
+        to,
+        limits_of(terms),
+        terms.most_bytes,
+        watch,
+    ) {
+        Ok((came, traffic)) => {
+            expect_taken(alloc, terms, &came)?;
+            Ok(Fetched { came, traffic })
         }
-        Err(fault) => return Err(FetchFault::Wire(fault)),
-    };
-    let came = entries.len();
-    expect_few(came, terms.most_entries)?;
-    expect_fit(alloc, &entries, terms.latest)?;
-    Ok(Fetched {
-        news: news_of(replica, entries),
-        came,
-        traffic,
-    })
+        Err(SessionFault::Session(fault)) => Err(SessionFault::Session(unheard(fault))),
+        Err(SessionFault::Side(error)) => Err(SessionFault::Side(error)),
+    }
 }

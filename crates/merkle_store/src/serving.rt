@@ -1,20 +1,18 @@
 //! The answering side of a sync.
 ghost use Rattle.std.specs.Prelude.{◌≡◌, IfOk};
 ghost use Rattle.merkle_tree_theory.specs.State.{SameSettings};
-ghost use Rattle.merkle_wire.specs.Replies.{IsAnsweredBy};
-ghost use Rattle.store_file.specs.WireRegisters.{register_encoding};
-ghost use Rattle.merkle_store.specs.Sessions.{HasServedTo, AnswersMessage, entry_laws, text_key_encoding};
+ghost use Rattle.merkle_store.specs.Sessions.{ServesPeer, AnswersMessage};
 
-use crate::counting::Counting;
 use crate::framing::{ANSWER_BYTES, Watch, receive, send};
-use crate::rows::EntryReplica;
+use crate::session_fault::{SessionFault, unanswered};
 use crate::traffic::Traffic;
 use crate::wire::WireFault;
 use merkle_delta::{read_message, tell};
-use merkle_search_tree::laws::every_tree_is_sound;
-use merkle_wire::{AnswerError, KeptError, answer_by, refusal};
+use merkle_digest::SipHasher;
+use merkle_wire::{AnswerError, KeptError, KeptReplica, KeptSide, answer_by, refusal};
 use std::alloc::Global;
 use std::io::{Read, Write};
+use store_file::Register;
 
 /// How a peer was served.
 #[derive(Clone, Copy, Debug, PartialEq, Eq, Drop)]
@@ -25,42 +23,33 @@ pub struct Served {
     pub is_turn: bool,
 }
 
-/// The plain reply to a message.
-fn answer_plainly(
+/// The reply to a message: the plain one, or as its delta where the message tells checksums. It ends with the entry by which the plain one has
+/// [`ANSWER_BYTES`].
+fn answer<S: KeptSide<16, String, Register, SipHasher, ()>>(
     alloc: Global,
-    replica: &mut Counting<EntryReplica>,
+    side: &mut S,
     message: &[u8],
-) -> Result<Vec<u8>, AnswerError>
-    ensures answered { IfOk result (IsAnsweredBy entry_laws 16 text_key_encoding register_encoding replica.old.rows replica.new.tree message.now) }
-    ensures rows { replica.new.rows ≡ replica.old.rows }
-    ensures settings { SameSettings replica.old.tree replica.new.tree }
+) -> Result<Vec<u8>, KeptError<S::Error>>
+    ensures answered { S.is_sound side.new → IfOk result (AnswersMessage (S.contents side.old tt) (S.contents side.new tt) message.now) }
+    ensures rows { S.is_sound side.new → (S.contents side.new tt).rows ≡ (S.contents side.old tt).rows }
+    ensures settings { S.is_sound side.new → SameSettings (S.contents side.old tt).tree (S.contents side.new tt).tree }
+    ensures steady { S.is_sound side.new → S.is_sound side.old }
 {
-    match answer_by(alloc, replica, &(), message, ANSWER_BYTES) {
+    let (checksums, question) = match read_message(alloc, message) {
+        Ok(read) => read,
+        Err(error) => return Err(KeptError::Answer(AnswerError::from(error))),
+    };
+    let plain = answer_by(alloc, side, &(), question, ANSWER_BYTES)?;
+    match tell(alloc, checksums, plain) {
         Ok(reply) => Ok(reply),
-        Err(KeptError::Answer(error)) => Err(error),
-        Err(KeptError::Kept(_)) => Err(AnswerError::Memory),
+        Err(error) => Err(KeptError::Answer(AnswerError::from(error))),
     }
 }
 
-/// The reply to a message: the plain one, or as its delta where the message tells checksums. It ends with the entry by which the plain one has
-/// [`ANSWER_BYTES`].
-fn answer(
-    alloc: Global,
-    replica: &mut Counting<EntryReplica>,
-    message: &[u8],
-) -> Result<Vec<u8>, AnswerError>
-    ensures answered { IfOk result (AnswersMessage replica.old replica.new message.now) }
-    ensures rows { replica.new.rows ≡ replica.old.rows }
-    ensures settings { SameSettings replica.old.tree replica.new.tree }
-{
-    let (checksums, question) = read_message(alloc, message)?;
-    let plain = answer_plainly(alloc, replica, question)?;
-    Ok(tell(alloc, checksums, plain)?)
-}
-
-/// Answers a peer until it sends a message of no bytes, or its messages end. Each has at most `most` bytes; an answer ends with the entry by which it has
-/// [`ANSWER_BYTES`], and the peer asks for the rest. The rows stay, and so does every file. An answer takes the time and the memory of
-/// [`answer_by`], and of [`tell`] for a message with checksums; nothing is kept between messages.
+/// Answers a peer until it sends a message of no bytes, or its messages end, by a side that is kept anywhere, such as an
+/// [`EntryReplica`](crate::rows::EntryReplica). Each message has at most `most` bytes; an answer ends with the entry by which it has
+/// [`ANSWER_BYTES`], and the peer asks for the rest. The rows stay. An answer takes the time and the memory of [`answer_by`], and of [`tell`] for a
+/// message with checksums; nothing is kept between messages.
 ///
 /// ```rust crates/mst/src/peers.rt
 /// let served = serve(
@@ -75,18 +64,20 @@ fn answer(
 ///
 /// # Errors
 ///
-/// [`WireFault`]: the peer is told that it is refused, where the output still takes that.
-pub fn serve<R: Read, W: Write, P: Watch>(
+/// [`SessionFault`] of a [`WireFault`]: the peer is told that it is refused, where the output still takes that.
+pub fn serve<S: KeptReplica<16, String, Register, SipHasher>, R: Read, W: Write, P: Watch>(
     alloc: Global,
-    replica: &mut Counting<EntryReplica>,
+    side: &mut S,
     most: u64,
     from: &mut R,
     to: &mut W,
     watch: &mut P,
-) -> Result<Served, WireFault>
-    ensures served { IfOk result (HasServedTo replica.old most (W.contents to.old, R.remaining from.old) (W.contents to.new, R.remaining from.new)) }
-    ensures rows { replica.new.rows ≡ replica.old.rows }
-    ensures settings { SameSettings replica.old.tree replica.new.tree }
+) -> Result<Served, SessionFault<WireFault, S::Error>>
+    ensures served { S.is_sound side.new → IfOk result (ServesPeer (S.contents side.old tt) most
+        (W.contents to.old, R.remaining from.old) (W.contents to.new, R.remaining from.new)) }
+    ensures rows { S.is_sound side.new → (S.contents side.new tt).rows ≡ (S.contents side.old tt).rows }
+    ensures settings { S.is_sound side.new → SameSettings (S.contents side.old tt).tree (S.contents side.new tt).tree }
+    ensures steady { S.is_sound side.new → S.is_sound side.old }
 {
     let mut traffic = Traffic::none();
     'messages: for _ in 0..u64::MAX {
@@ -102,17 +93,17 @@ pub fn serve<R: Read, W: Write, P: Watch>(
                 is_turn: true,
             });
         }
-        match answer(alloc, replica, &message) {
+        match answer(alloc, side, &message) {
             Ok(reply) => {
-                every_tree_is_sound(replica.side().tree());
+                side.has_its_tree();
                 send(alloc, to, &reply)?;
                 traffic = traffic.with(reply.len(), message.len());
             }
             Err(error) => {
                 let _ = send(alloc, to, &refusal(alloc)?);
-                return Err(WireFault::Question(error));
+                return Err(unanswered(error));
             }
         }
     }
-    Err(WireFault::Endless)
+    Err(SessionFault::Session(WireFault::Endless))
 }

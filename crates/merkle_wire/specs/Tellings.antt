@@ -1,5 +1,5 @@
 -- What a side tells of its rows and its tree.
-use Rattle.std.specs.Prelude.{◌≡◌, ℕ, List, length}
+use Rattle.std.specs.Prelude.{◌≡◌, ℕ, List, Option, IfSome, length}
 use Rattle.std.specs.Global.{Vec}
 use Rattle.std.specs.declared.cmp.Ordering.{Ordering}
 use Rattle.key_order.specs.Map.{get}
@@ -7,17 +7,22 @@ use Rattle.merkle_replica.specs.Contents.{Contents}
 use Rattle.merkle_replica.specs.Laws.{Laws}
 use Rattle.merkle_wire.specs.Messages.{front}
 use Rattle.merkle_wire.specs.Outlines.{IsTold}
-use Rattle.merkle_wire.specs.Replies.{AnswersFirst, IsAnsweredBy, IsPartOf, RowsFit, TellsWhatFits, items_over, outline_over_bytes, part_in_bytes, root_page_digest, root_reply_bytes, value_at_bytes}
+use Rattle.merkle_wire.specs.Replies.{AnswersFirst, IsAnsweredBy, IsPartOf, IsReply, RowsFit, TellsWhatFits, items_over, outline_over_bytes, part_in_bytes, root_page_digest, root_reply_bytes, value_at_bytes}
 use Rattle.merkle_wire.specs.declared.gaps.OwnedGap.{OwnedGap}
 use Rattle.merkle_wire.specs.declared.message.Kind.{Kind}
 use Rattle.merkle_wire.specs.declared.message.Kind.TheVariants.{RowsAt, RowsIn}
 use Rattle.merkle_wire.specs.declared.outlines.Telling.{Telling}
+use Rattle.merkle_wire.specs.declared.question.Question.{Question}
 use Rattle.merkle_wire.specs.declared.wanted.Wanted.{Wanted}
 
 module _ {K V H : Type 0} (laws : Laws K V H) (n : ℕ) (encoding : K → List ℕ) (values : V → List ℕ) where
   -- the message asks a question, and this is the reply to it by the rows before and the tree after
   abbrev pub IsAnsweredOf : Contents K V H → Contents K V H → List ℕ → Vec ℕ → Type 0
   IsAnsweredOf before after message reply = IsAnsweredBy laws n encoding values before.rows after.tree message reply
+
+  -- what a side would reply itself to a question, where it replies: the reply by the rows before and the tree after
+  abbrev pub IsOwnReply : Contents K V H → Contents K V H → Question K → Option (Vec ℕ) → Type 0
+  IsOwnReply before after question own = IfSome own (λ reply. IsReply laws n encoding values before.rows after.tree question reply.items)
 
 -- a reply tells how many rows there are, and the digest of the root page, or none
 abbrev pub TellsRoot : {K V H : Type 0} → (K → List ℕ) → Contents K V H → Vec ℕ → Type 0

@@ -1,10 +1,10 @@
 //! The answering side: a reply to a message, with nothing kept between messages.
-ghost use Rattle.std.specs.Prelude.{◌≡◌, false, IsSome, IsTrue, IfOk, IfErr, IfSome, Some};
+ghost use Rattle.std.specs.Prelude.{◌≡◌, false, IsSome, IsTrue, IfOk, IfErr, Some};
 ghost use Rattle.merkle_tree_theory.specs.State.{SameSettings, map_of};
 ghost use Rattle.merkle_wire.specs.Faults.{IsUnread, OfMessage, answer_error_text, AreOtherSettings};
 ghost use Rattle.merkle_wire.specs.Questions.{AsksNothing};
 ghost use Rattle.merkle_wire.specs.Replies.{EndsWithin, IsAnsweredBy, IsAnsweredWithin, AsksWithOthers, IsReply, TellsSettings};
-ghost use Rattle.merkle_wire.specs.Tellings.{IsAnsweredOf, TellsRoot};
+ghost use Rattle.merkle_wire.specs.Tellings.{IsAnsweredOf, IsOwnReply, TellsRoot};
 
 use crate::kept_side::KeptSide;
 use crate::message::{Kind, begin};
@@ -191,24 +191,29 @@ pub fn answer_by<
     }
 }
 
-/// The reply of a replica to a question of its own; none to one with settings of another.
+/// The reply of a side to a question of its own; none to one with settings of another.
 pub(crate) fn own_reply<
     K: Key + Decode,
     V: Join + Encode + Drop,
     H: RowHasher<N, K, V>,
+    S: KeptSide<N, K, V, H, R>,
+    R,
     const N: usize,
 >(
     alloc: Global,
-    replica: &mut Replica<K, V, H, N>,
+    side: &mut S,
+    beside: &R,
     question: &Question<K>,
-) -> Result<Option<Vec<u8>>, AllocError>
-    ensures own { IfOk result (λ own. IfSome own (λ reply. IsReply H.laws N K.encoding V.encoding
-        replica.old.rows replica.new.tree question.now reply.items)) }
-    ensures rows { replica.new.rows ≡ replica.old.rows }
-    ensures settings { SameSettings replica.old.tree replica.new.tree }
+) -> Result<Option<Vec<u8>>, S::Error>
+    ensures own { S.is_sound side.new → IfOk result (IsOwnReply H.laws N K.encoding V.encoding
+        (S.contents side.old beside.now) (S.contents side.new beside.now) question.now) }
+    ensures rows { S.is_sound side.new → (S.contents side.new beside.now).rows ≡ (S.contents side.old beside.now).rows }
+    ensures map { S.is_sound side.new → map_of (S.contents side.new beside.now).tree ≡ map_of (S.contents side.old beside.now).tree }
+    ensures settings { S.is_sound side.new → SameSettings (S.contents side.old beside.now).tree (S.contents side.new beside.now).tree }
+    ensures steady { S.is_sound side.new → S.is_sound side.old }
 {
-    replica.hash();
-    match reply_to(alloc, replica, &(), question, MOST_BYTES) {
+    side.hash(beside)?;
+    match reply_to(alloc, side, beside, question, MOST_BYTES) {
         Ok(reply) => Ok(Some(reply)),
         Err(KeptError::Answer(_)) => Ok(None),
         Err(KeptError::Kept(error)) => Err(error),

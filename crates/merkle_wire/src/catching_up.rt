@@ -1,7 +1,7 @@
 //! The asking side: what to ask next, and the rows that came in the end.
 ghost use Rattle.std.specs.Prelude.{◌≡◌, ◌≤◌, IfOk, IfErr, IfSome, length, ℕ, ◌⊎◌};
 ghost use Rattle.merkle_replica.specs.Contents.{side};
-ghost use Rattle.merkle_tree_theory.specs.State.{SameSettings};
+ghost use Rattle.merkle_tree_theory.specs.State.{SameSettings, map_of};
 ghost use Rattle.merkle_wire.specs.ByDigests.{IsStoppedWith};
 ghost use Rattle.merkle_wire.specs.Underway.{nothing};
 ghost use Rattle.merkle_wire.specs.ItsRows.{ForRowsOf, digests_of};
@@ -10,11 +10,13 @@ ghost use Rattle.merkle_wire.specs.Next.{GoesOn, HasLeft, IsAsked, IsCame, IsEnd
 ghost use Rattle.merkle_wire.specs.Questions.{AsksForRoot, IsQuestion, question_bytes};
 ghost use Rattle.merkle_wire.specs.Replies.{IsReply};
 ghost use Rattle.merkle_wire.specs.Sessions.{IsKeyOf};
+ghost use Rattle.merkle_wire.specs.Tellings.{IsOwnReply};
 ghost use Rattle.merkle_wire.specs.declared.session_error.SessionError.TheVariants.{Memory, TooManyRounds, Twice};
 ghost use Rattle.std.specs.Global.{Vec};
 ghost use Rattle.merkle_wire.specs.declared.gaps.OwnedGap.{OwnedGap};
 
 use crate::answering::own_reply;
+use crate::kept_side::KeptSide;
 use crate::kept_tree::{KeptTree, first_key, first_row_key};
 use crate::limits::Limits;
 use crate::question::{Question, encode_question};
@@ -197,10 +199,31 @@ impl<K: Key + Decode, V: Join + Decode> CatchingUp<K, V> {
         ensures rows { replica.new.rows ≡ replica.old.rows }
         ensures settings { SameSettings replica.old.tree replica.new.tree }
     {
+        self.own_reply_by(replica, &(), with_rows)
+    }
+
+    /// The same of a side whose tree and rows are kept anywhere, with `beside` as in [`answer_by`](crate::answer_by).
+    ///
+    /// # Errors
+    ///
+    /// Out of memory, or the tree or the rows can't be read.
+    pub fn own_reply_by<H: RowHasher<N, K, V>, S: KeptSide<N, K, V, H, R>, R, const N: usize>(
+        &self,
+        side: &mut S,
+        beside: &R,
+        with_rows: bool,
+    ) -> Result<Option<Vec<u8>>, S::Error>
+        ensures own { S.is_sound side.new → IfOk result (IsOwnReply H.laws N K.encoding V.encoding
+            (S.contents side.old beside.now) (S.contents side.new beside.now) self.now.asked) }
+        ensures rows { S.is_sound side.new → (S.contents side.new beside.now).rows ≡ (S.contents side.old beside.now).rows }
+        ensures map { S.is_sound side.new → map_of (S.contents side.new beside.now).tree ≡ map_of (S.contents side.old beside.now).tree }
+        ensures settings { S.is_sound side.new → SameSettings (S.contents side.old beside.now).tree (S.contents side.new beside.now).tree }
+        ensures steady { S.is_sound side.new → S.is_sound side.old }
+    {
         if !self.asked.is_shared(with_rows) {
             return Ok(None);
         }
-        own_reply(self.alloc, replica, &self.asked)
+        own_reply(self.alloc, side, beside, &self.asked)
     }
 
     /// Takes a reply. It records whatever this side lacks, and returns the next question, or the rows once nothing is left to ask. The replica keeps

@@ -2,10 +2,12 @@
 use crate::fault::Failure;
 use merkle_store::counting::Counting;
 use merkle_store::fetch_fault::{FetchFault, Untaken};
-use merkle_store::fetching::{Fetched, Terms, fetch};
+use merkle_store::fetching::{Terms, fetch};
 use merkle_store::framing::{MOST_BYTES, Unwatched, Watch, send};
+use merkle_store::news::news_of;
 use merkle_store::rows::EntryReplica;
 use merkle_store::serving::{Served, serve};
+use merkle_store::session_fault::SessionFault;
 use merkle_store::traffic::Traffic;
 use mst_commands::clock::{latest, now};
 use mst_commands::escape::{cut, escape};
@@ -16,6 +18,17 @@ use std::alloc::{AllocError, Global};
 use std::env;
 use std::io::{IsTerminal, Read, Take, Write};
 use store_file::table::Entries;
+
+/// What a peer has that the rows lack.
+#[derive(Drop)]
+pub struct Pulled {
+    /// The entries of the peer that are later than what the rows have for their keys, ascending by key.
+    pub news: Entries,
+    /// How many entries of the peer came.
+    pub came: usize,
+    /// What went over the wire.
+    pub traffic: Traffic,
+}
 
 /// How many bytes come between two lines on standard error.
 const LINE_BYTES: usize = 16_777_216;
@@ -55,7 +68,7 @@ fn words_for(count: usize, one: &'static str, more: &'static str) -> &'static st
 }
 
 /// Says on standard error what was fetched and joined.
-pub fn tell(rt: &HostRuntime, fetched: &Fetched) -> Result<(), Failure> {
+pub fn tell(rt: &HostRuntime, fetched: &Pulled) -> Result<(), Failure> {
     eprintln!(rt;
         "mst: pulled {} {}, {} of them new, in {} {}; {} bytes sent, {} received",
         fetched.came,
@@ -128,7 +141,11 @@ pub fn answer<R: Read>(
     if from.limit() == 0 {
         return Err(Failure::TooMany);
     }
-    Ok(served?)
+    match served {
+        Ok(served) => Ok(served),
+        Err(SessionFault::Session(fault)) => Err(Failure::from(fault)),
+        Err(SessionFault::Side(error)) => Err(Failure::from(error)),
+    }
 }
 
 /// What is said of an entry of a peer that isn't taken.
@@ -170,7 +187,7 @@ pub fn ask<R: Read>(
     replica: &mut EntryReplica,
     limits: &Limits,
     from: &mut Take<R>,
-) -> Result<Fetched, Failure> {
+) -> Result<Pulled, Failure> {
     let terms = terms_of(rt, limits)?;
     let mut lines = lines_of(rt);
     let fetched = fetch(
@@ -185,8 +202,13 @@ pub fn ask<R: Read>(
         return Err(Failure::TooMany);
     }
     match fetched {
-        Ok(fetched) => Ok(fetched),
-        Err(fault) => Err(failure_of(rt.alloc(), fault)),
+        Ok(fetched) => Ok(Pulled {
+            came: fetched.came.len(),
+            news: news_of(replica, fetched.came),
+            traffic: fetched.traffic,
+        }),
+        Err(SessionFault::Session(fault)) => Err(failure_of(rt.alloc(), fault)),
+        Err(SessionFault::Side(error)) => Err(Failure::from(error)),
     }
 }
 

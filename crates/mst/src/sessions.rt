@@ -6,9 +6,9 @@ ghost use Rattle.merkle_store.specs.Kept.{AreRowsOf};
 
 use crate::fault::Failure;
 use crate::peers;
+use crate::peers::Pulled;
 use merkle_store::counting::Counting;
 use merkle_store::fetch_fault::FetchFault;
-use merkle_store::fetching::Fetched;
 use merkle_store::rows::{EntryReplica, read_replica};
 use mst_commands::clock::now;
 use mst_files::closing::{Closing, close_behind};
@@ -80,7 +80,7 @@ fn join(
     seconds: u64,
     both: bool,
     hash_key: &[u8; HASH_KEY_LEN],
-    fetched: &Fetched,
+    fetched: &Pulled,
 ) -> Result<(), Failure> {
     if !fetched.news.is_empty() {
         let log = open_file(rt, path, seconds)?;
@@ -120,7 +120,7 @@ fn join_and_answer<R: Read>(
     path: &str,
     seconds: u64,
     side: (Note, EntryReplica),
-    fetched: Result<Fetched, Failure>,
+    fetched: Result<Pulled, Failure>,
     from: &mut Take<R>,
 ) -> Result<(), Failure> {
     let (note, replica) = side;

@@ -2,6 +2,7 @@
 #![tactic(auto)]
 
 mod asked;
+mod file_replica;
 mod filed;
 pub mod laws;
 mod noted;

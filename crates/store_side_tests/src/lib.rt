@@ -7,3 +7,5 @@ mod logs;
 mod random_logs;
 #[cfg(test)]
 mod sessions;
+#[cfg(test)]
+mod streams;

@@ -12,17 +12,17 @@ use store_file::{Register, Value};
 use test_keys::Random;
 
 /// The hash key of both sides.
-const HASH_KEY: [u8; HASH_KEY_LEN] = [9; HASH_KEY_LEN];
+pub(crate) const HASH_KEY: [u8; HASH_KEY_LEN] = [9; HASH_KEY_LEN];
 
 /// Rows of a store, sorted by key.
-type Rows = Vec<(String, Register)>;
+pub(crate) type Rows = Vec<(String, Register)>;
 
 /// The numbers of an entry: of its key, its time and its writer, which determine its value.
 type Numbers = (u64, u64, u64);
 
 /// The numbers of entries that are added, or put in place of all others.
 #[derive(Drop)]
-struct Given {
+pub(crate) struct Given {
     numbers: Vec<Numbers>,
     anew: bool,
 }
@@ -62,7 +62,7 @@ fn some(alloc: Global, random: &mut Random, keys: u64, anew: bool) -> Result<Giv
 }
 
 /// Random entries, of which those of one time are put in place of all others.
-fn random_given(
+pub(crate) fn random_given(
     alloc: Global,
     random: &mut Random,
     keys: u64,
@@ -77,7 +77,7 @@ fn random_given(
 }
 
 /// The writes of what is given.
-fn writes_of(alloc: Global, given: &[Given]) -> Result<Vec<Write>, AllocError> {
+pub(crate) fn writes_of(alloc: Global, given: &[Given]) -> Result<Vec<Write>, AllocError> {
     let mut writes = Vec::new(alloc);
     for new in given {
         let entries = entries_of(alloc, &new.numbers)?;
@@ -99,7 +99,7 @@ fn blank(alloc: Global) -> EntryReplica {
 }
 
 /// The replica of what is given.
-fn replica_of(alloc: Global, given: &[Given]) -> Result<EntryReplica, Fail> {
+pub(crate) fn replica_of(alloc: Global, given: &[Given]) -> Result<EntryReplica, Fail> {
     let mut replica = blank(alloc);
     for new in given {
         if new.anew {
@@ -134,7 +134,12 @@ fn latest_of(given: &[Given], key: u64) -> Option<(u64, u64)> {
 }
 
 /// The latest rows of one side that the other lacks, or has with another register.
-fn lacked(alloc: Global, own: &[Given], given: &[Given], keys: u64) -> Result<Rows, AllocError> {
+pub(crate) fn lacked(
+    alloc: Global,
+    own: &[Given],
+    given: &[Given],
+    keys: u64,
+) -> Result<Rows, AllocError> {
     let mut rows = Vec::new(alloc);
     for key in 0..keys {
         let there = latest_of(given, key);
