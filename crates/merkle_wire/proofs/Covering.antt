@@ -3,18 +3,18 @@ use Rattle.std.specs.Prelude.{◌≡◌, ℕ, List, ⊤, ◌⊎◌, true, Some}
 use Rattle.std.specs.List.{AllByRecursion}
 use Rattle.key_order.specs.Order.{AnyByRecursion, Same}
 use Rattle.merkle_replica.specs.CatchUp.{IsLacked}
-use Rattle.merkle_replica.specs.Contents.{Side, side, tree_map}
+use Rattle.merkle_replica.specs.Contents.{Side, tree_map}
 use Rattle.merkle_replica.specs.Faithful.{HasSmallMap}
 use Rattle.merkle_replica.specs.Laws.{Laws}
 use Rattle.merkle_tree_theory.specs.Canonical.{IsTreeOf}
 use Rattle.merkle_tree_theory.specs.Gap.{Gap, IsInGap}
 use Rattle.merkle_tree_theory.specs.Outline.{outline_over}
 use Rattle.merkle_tree_theory.specs.Tree.{Tree}
+use Rattle.merkle_bytes.specs.Options.{IsOption}
 use Rattle.merkle_wire.specs.Underway.{Found, Underway}
 use Rattle.merkle_wire.specs.Gaps.{owned_gap}
 use Rattle.merkle_wire.specs.Outlines.{nodes_among, keys_among}
 use Rattle.merkle_wire.specs.Questions.{question_bytes}
-use Rattle.merkle_wire.specs.Settings.{IsDigested}
 use Rattle.merkle_wire.specs.declared.catching_up.Next.{Next}
 use Rattle.merkle_wire.specs.declared.catching_up.Next.TheVariants.{Ask, Came}
 use Rattle.merkle_wire.specs.declared.question.Question.{Question}
@@ -26,7 +26,7 @@ use Rattle.merkle_wire.proofs.Lacking.{IsInOneOf}
 module _ {K V H : Type 0} (laws : Laws K V H) (n : ℕ) (side : Side K V H) where
   -- a question for the root tells the settings of the side, whose digests of values have n bytes
   abbrev pub TellsOwn : Question K → Type 0
-  TellsOwn (Root s) = (s.level_base ≡ side.base) × (s.page_format ≡ side.format) × (s.digest_bytes ≡ n) × IsDigested (laws.key_digest side.hasher) s.sample
+  TellsOwn (Root s) = (s.level_base ≡ side.base) × (s.page_format ≡ side.format) × (s.digest_bytes ≡ n) × IsOption (λ p. p.1.items ≡ laws.key_digest side.hasher p.0) s.sample
   TellsOwn _ = ⊤
 
 module _ {K V H : Type 0} (laws : Laws K V H) (peer : Side K V H) (root : Tree K (List ℕ)) where

@@ -68,3 +68,4 @@ pub mod SteadySessions
 pub mod Since
 pub mod Lacking
 pub mod ToldAlike
+pub mod PartsTold

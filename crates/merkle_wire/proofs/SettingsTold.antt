@@ -14,7 +14,8 @@ use Rattle.merkle_tree_theory.specs.declared.page_format.PageFormat.TheVariants.
 use Rattle.merkle_wire.specs.Underway.{IsAskedOf, IsTakenFrom, Found, Underway}
 use Rattle.merkle_wire.specs.Next.{IsNext, IfAsks}
 use Rattle.merkle_wire.specs.Questions.{question_bytes}
-use Rattle.merkle_wire.specs.Settings.{IsDigested, format_byte, settings_bytes}
+use Rattle.merkle_bytes.specs.Options.{IsOption}
+use Rattle.merkle_wire.specs.Settings.{format_byte, settings_bytes}
 use Rattle.merkle_wire.specs.Taking.{AsksAgain, HasTakenReply}
 use Rattle.merkle_wire.specs.declared.catching_up.Next.{Next}
 use Rattle.merkle_wire.specs.declared.catching_up.Next.TheVariants.{Ask, Came}
@@ -77,7 +78,10 @@ module _ {K : Type 0} (encoding : K → List ℕ) (eq : K → K → Bool) (told 
   module _ {V H : Type 0} (laws : Laws K V H) (respects : (h : H) (a b : K) → eq a b ≡ true → laws.key_digest h a ≡ laws.key_digest h b) (n : ℕ) (local peer : Side K V H)
       (alike : AreSetAlike laws local peer)
       (tree : State K H) (hasher : tree.hasher ≡ peer.hasher) (base : tree.base ≡ peer.base) (format : tree.format ≡ peer.format) where
-    digested : (p q : Option (K × Vec ℕ)) → SameSample p q → IsDigested (laws.key_digest local.hasher) p → IsDigested (laws.key_digest tree.hasher) q
+    abbrev IsDigested : H → Option (K × Vec ℕ) → Type 0
+    IsDigested hasher = IsOption (λ p. p.1.items ≡ laws.key_digest hasher p.0)
+
+    digested : (p q : Option (K × Vec ℕ)) → SameSample p q → IsDigested local.hasher p → IsDigested tree.hasher q
     digested None None same is = tt
     digested None (Some q) same is = absurd same
     digested (Some p) None same is = absurd same

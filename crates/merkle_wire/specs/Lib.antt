@@ -18,3 +18,4 @@ pub mod Steps
 pub mod ByDigests
 pub mod Tellings
 pub mod ToldAlike
+pub mod Parts

@@ -1,6 +1,5 @@
 -- What the digests of two sides rest on.
-use Rattle.std.specs.Prelude.{◌≡◌, ℕ, ◌<◌, ◌^◌, List, ◌∷◌, ◌++◌, Option, Some, None, ⊤}
-use Rattle.std.specs.Global.{Vec}
+use Rattle.std.specs.Prelude.{◌≡◌, ℕ, ◌<◌, ◌^◌, List, ◌∷◌, ◌++◌}
 use Rattle.merkle_tree_theory.specs.declared.page_format.PageFormat.{PageFormat}
 use Rattle.merkle_tree_theory.specs.declared.page_format.PageFormat.TheVariants.{V1, V2}
 use Rattle.merkle_bytes.specs.Counts.{count_bytes}
@@ -22,11 +21,6 @@ settings_bytes encoding s = s.level_base ∷ format_byte s.page_format ∷ (coun
 abbrev pub AreSettings : {K : Type 0} → (K → Type 0) → Settings K → Type 0
 AreSettings is_value s = (s.digest_bytes < 2 ^ 64) × IsOption (λ p. is_value p.0) s.sample
 
--- the digest is that of the key
-abbrev pub IsDigested : {K : Type 0} → (K → List ℕ) → Option (K × Vec ℕ) → Type 0
-IsDigested digest_of None = ⊤
-IsDigested digest_of (Some pair) = pair.1.items ≡ digest_of pair.0
-
--- these are the settings of a side whose digests have n bytes, as far as they tell
+-- these are the settings of a side whose digests have n bytes, as far as they tell: the digest of the sample is that of its key
 abbrev pub AreSettingsBy : {K H : Type 0} → (H → K → List ℕ) → ℕ → Digests K H → Settings K → Type 0
-AreSettingsBy digest_of n own s = (s.level_base ≡ own.base) × (s.page_format ≡ own.format) × (s.digest_bytes ≡ n) × IsDigested (digest_of own.hasher) s.sample
+AreSettingsBy digest_of n own s = (s.level_base ≡ own.base) × (s.page_format ≡ own.format) × (s.digest_bytes ≡ n) × IsOption (λ p. p.1.items ≡ digest_of own.hasher p.0) s.sample

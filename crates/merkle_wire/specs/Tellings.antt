@@ -15,10 +15,9 @@ use Rattle.merkle_wire.specs.declared.outlines.Telling.{Telling}
 use Rattle.merkle_wire.specs.declared.question.Question.{Question}
 use Rattle.merkle_wire.specs.declared.wanted.Wanted.{Wanted}
 
-module _ {K V H : Type 0} (laws : Laws K V H) (n : ℕ) (encoding : K → List ℕ) (values : V → List ℕ) where
-  -- the message asks a question, and this is the reply to it by the rows before and the tree after
-  abbrev pub IsAnsweredOf : Contents K V H → Contents K V H → List ℕ → Vec ℕ → Type 0
-  IsAnsweredOf before after message reply = IsAnsweredBy laws n encoding values before.rows after.tree message reply
+-- the message asks a question, and this is the reply to it by the rows before and the tree after
+abbrev pub IsAnsweredOf : {K V H : Type 0} → Laws K V H → ℕ → (K → List ℕ) → (V → List ℕ) → Contents K V H → Contents K V H → List ℕ → Vec ℕ → Type 0
+IsAnsweredOf laws n encoding values before after message reply = IsAnsweredBy laws n encoding values before.rows after.tree message reply
 
   -- what a side would reply itself to a question, where it replies: the reply by the rows before and the tree after
   abbrev pub IsOwnReply : Contents K V H → Contents K V H → Question K → Option (Vec ℕ) → Type 0
@@ -37,11 +36,10 @@ TellsOutlines cmp bytes_of encoding values side telling kind gaps reply =
 abbrev pub TellsValues : {K V : Type 0} → (K → K → Ordering) → (V → List ℕ) → List (K × V) → List (Wanted K) → Vec ℕ → Type 0
 TellsValues cmp values rows keys reply = AnswersFirst RowsAt (value_at_bytes values) (λ w value. value ≡ get cmp rows w.key) keys reply.items
 
-module _ {K V : Type 0} (encoding : K → List ℕ) (values : V → List ℕ) where
-  -- a reply tells the rows in the first of the gaps
-  abbrev pub TellsRows : (K → K → Ordering) → List (K × V) → List (OwnedGap K) → Vec ℕ → Type 0
-  TellsRows cmp rows gaps reply = AnswersFirst RowsIn (part_in_bytes encoding values) (IsPartOf cmp rows) gaps reply.items
+-- a reply tells the rows in the first of the gaps
+abbrev pub TellsRows : {K V : Type 0} → (K → List ℕ) → (V → List ℕ) → (K → K → Ordering) → List (K × V) → List (OwnedGap K) → Vec ℕ → Type 0
+TellsRows encoding values cmp rows gaps reply = AnswersFirst RowsIn (part_in_bytes encoding values) (IsPartOf cmp rows) gaps reply.items
 
-  -- a reply of rows in gaps tells all that fit
-  abbrev pub TellsRowsThatFit : ℕ → List (OwnedGap K) → Vec ℕ → Type 0
-  TellsRowsThatFit most gaps reply = TellsWhatFits (part_in_bytes encoding values) (RowsFit encoding values most) most gaps (front RowsIn) reply.items
+-- a reply of rows in gaps tells all that fit
+abbrev pub TellsRowsThatFit : {K V : Type 0} → (K → List ℕ) → (V → List ℕ) → ℕ → List (OwnedGap K) → Vec ℕ → Type 0
+TellsRowsThatFit encoding values most gaps reply = TellsWhatFits (part_in_bytes encoding values) (RowsFit encoding values most) most gaps (front RowsIn) reply.items

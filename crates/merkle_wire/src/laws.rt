@@ -7,7 +7,7 @@ ghost use Rattle.merkle_tree_theory.specs.Gap.{Gap};
 ghost use Rattle.merkle_wire.specs.SessionLaws.{AnswersAreTaken, BroughtRowsCatchUp, InSessions, LackedKeysAreTold, LackedPagesAreTold};
 ghost use Rattle.merkle_wire.specs.SessionLaws.{NoCollisionIsFaithful, SessionsBring};
 ghost use Rattle.merkle_wire.specs.Taking.{HasPageAt};
-ghost use Rattle.merkle_wire.specs.ToldAlike.{ItemsAreToldAlike, PartsAreToldAlike};
+ghost use Rattle.merkle_wire.specs.ToldAlike.{ItemsAreToldAlike};
 
 use merkle_bytes::{Decode, Encode};
 use merkle_digest::{Key, KeyBytesExact};
@@ -82,9 +82,8 @@ pub fn no_collision_makes_a_session_faithful<
     no_collision_is_enough::<K, V, H, N>();
 }
 
-/// What is told of keys and values rests on their bytes alone. So a side whose rows are read back, as values that are equal to those that it has and not
-/// the same ones, tells what it would tell by these.
+/// What is told of a page rests on the bytes of its keys and values alone. So a side whose rows are read back, as values that are equal to those that it
+/// has and not the same ones, tells what it would tell by these.
 pub fn equal_bytes_are_told_alike<K: Ord + Decode, V: Encode>()
-    ensures items { ItemsAreToldAlike K.cmp K.encoding V.encoding }
-    ensures parts { PartsAreToldAlike K.cmp K.encoding V.encoding }
+    ensures { ItemsAreToldAlike K.cmp K.encoding V.encoding }
 {}

@@ -15,6 +15,7 @@ mod message;
 mod nodes;
 mod outlines;
 mod pages;
+mod part_teller;
 mod question;
 mod replies;
 mod rows_at;
@@ -39,6 +40,7 @@ pub use limits::{Limit, Limits};
 pub use merkle_bytes as bytes;
 pub use message::{Kind, refusal};
 pub use outlines::{Telling, tell_outline};
+pub use part_teller::PartTeller;
 pub use question::{Question, decode_question};
 pub use rows_in::tell_part;
 pub use session::{

@@ -1,19 +1,19 @@
 //! The rows of a side in gaps.
-ghost use Rattle.std.specs.Prelude.{◌≡◌, ◌≢◌, ℕ, ◌≤◌, ◌<◌, ◌++◌, ◌⊎◌, true, false, cond, not, length, take, drop, [], IfOk, OnOk};
+ghost use Rattle.std.specs.Prelude.{◌≡◌, ◌≢◌, ◌≤◌, ◌⊎◌, Bool, true, false, cond, not, length, take, drop, [], IfOk, OnOk};
 ghost use Rattle.std.specs.List.{AllByRecursion};
 ghost use Rattle.key_order.specs.Map.{IsMap};
 ghost use Rattle.merkle_tree_theory.specs.Gap.{is_after, is_before, pairs_within};
-ghost use Rattle.merkle_bytes.specs.Encodings.{AddsBytes};
+ghost use Rattle.merkle_wire.specs.Parts.{HasTold};
 ghost use Rattle.merkle_wire.specs.Gaps.{owned_gap};
 ghost use Rattle.merkle_wire.specs.Steps.{TellsPart};
-ghost use Rattle.merkle_wire.specs.Replies.{rows_bytes};
 ghost use Rattle.merkle_wire.specs.Tellings.{TellsRows, TellsRowsThatFit};
 
 use crate::gaps::OwnedGap;
 use crate::kept_side::KeptSide;
 use crate::message::{Kind, begin};
 use crate::outlines::is_full;
-use merkle_bytes::{Encode, EncodeInRun, KeyRun, encode_count};
+use crate::part_teller::PartTeller;
+use merkle_bytes::Encode;
 use merkle_digest::Key;
 use merkle_replica::{Join, RowHasher};
 use std::alloc::{AllocError, Global};
@@ -64,43 +64,33 @@ pub fn tell_part<K: Ord + Encode, V: Encode>(
     ensures { OnOk result (TellsPart K.cmp K.encoding V.encoding rows.now most_bytes gap.now bytes.old bytes.new) }
 {
     let found = rows_in(rows, gap);
-    let mut run = KeyRun::behind(alloc, gap.after.as_ref())?;
-    let mut part = Vec::new(alloc);
-    let room = most_bytes.saturating_sub(bytes.len());
-    let count = encode_first(found, room, &mut run, &mut part)?;
-    encode_count(count as u64, bytes)?;
-    bytes.extend_from_slice(&part)?;
-    let is_whole = count == found.len();
-    bytes.extend_from_slice(&[byte_of(is_whole)])?;
+    let mut part = PartTeller::begin(alloc, most_bytes, gap, bytes)?;
+    let count = tell_first(&mut part, found)?;
+    part.end::<K, V>(count == found.len(), bytes)?;
     Ok(())
 }
 
 /// The byte of a flag.
-fn byte_of(flag: bool) -> u8
+pub(crate) fn byte_of(flag: bool) -> u8
     ensures { result ≡ cond flag 1 0 }
 {
     if flag { 1 } else { 0 }
 }
 
-/// Writes the first of the rows, up to that by which there are as many bytes as the room, and returns how many they are.
-fn encode_first<K: Encode, V: Encode>(
+/// Tells the first of the rows, as far as there is room, and returns how many they are.
+fn tell_first<K: Encode, V: Encode>(
+    part: &mut PartTeller,
     rows: &[(K, V)],
-    room: usize,
-    run: &mut KeyRun,
-    bytes: &mut Vec<u8>,
 ) -> Result<usize, AllocError>
     ensures inside { IfOk result (λ count. count ≤ length rows.now) }
     ensures some { IfOk result (λ count. rows.now ≢ [] → count ≢ 0) }
-    ensures written { IfOk result (λ count. AddsBytes bytes.old (rows_bytes K.encoding V.encoding run.old (take count rows.now)) bytes.new) }
-    ensures room { IfOk result (λ count. (i : ℕ) → i ≢ 0 → i < count
-        → length (bytes.old.items ++ rows_bytes K.encoding V.encoding run.old (take i rows.now)) < room) }
-    ensures ends { IfOk result (λ count. (count ≡ length rows.now) ⊎ (room ≤ length bytes.new.items)) }
+    ensures told { IfOk result (λ count. (more : Bool) × HasTold K.encoding V.encoding part.old part.new (take count rows.now) more
+        × ((count ≡ length rows.now) ⊎ (more ≡ false))) }
 {
     let mut count = 0;
     'rows: for row in rows {
-        row.encode_behind(run, bytes)?;
         count += 1;
-        if bytes.len() >= room {
+        if !part.add(row)? {
             return Ok(count);
         }
     }

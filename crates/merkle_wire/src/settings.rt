@@ -6,7 +6,7 @@ ghost use Rattle.merkle_bytes.specs.Reading.{Reads, BeginsWithNo};
 ghost use Rattle.merkle_bytes.specs.Refusals.{IsMalformed, IsRefusal};
 ghost use Rattle.merkle_bytes.specs.Options.{IsOption};
 ghost use Rattle.merkle_tree_theory.specs.declared.page_format.PageFormat.{PageFormat as PageFormatOf};
-ghost use Rattle.merkle_wire.specs.Settings.{format_byte, settings_bytes, AreSettings, AreSettingsBy, IsDigested};
+ghost use Rattle.merkle_wire.specs.Settings.{format_byte, settings_bytes, AreSettings, AreSettingsBy};
 ghost use Rattle.merkle_wire.specs.Sessions.{IsKeyOf};
 
 use crate::kept_tree::KeptTree;
@@ -170,7 +170,7 @@ fn has_digest<K: Key, V: Join, H: RowHasher<N, K, V>, T: KeptTree<N, K, V, H>, c
     tree: &T,
     sample: &Option<(K, Vec<u8>)>,
 ) -> bool
-    ensures { IsTrue result ↔ IsDigested (⟦<H as Hasher<N, K>>⟧.digest_of (T.kept tree.now).digests.hasher) sample.now }
+    ensures { IsTrue result ↔ IsOption (λ p. p.1.items ≡ ⟦<H as Hasher<N, K>>⟧.digest_of (T.kept tree.now).digests.hasher p.0) sample.now }
 {
     match sample {
         None => true,

@@ -1,5 +1,5 @@
 -- A walk through the entries of the keys between two others.
-use Rattle.std.proofs.Common.{◌≡◌, pos, Bool, true, false, not, cond, ◌&&◌, List, [], ◌∷◌, ◌++◌, filter, map, Option, Some, None, option_map, string_bytes, refl, sym, ap, subst, ◌∙◌, append_assoc, append-nil, arith}
+use Rattle.std.proofs.Common.{◌≡◌, pos, Bool, true, false, not, cond, ◌&&◌, List, [], ◌∷◌, ◌++◌, filter, map, Option, Some, None, option_map, string_bytes, inl, inr, refl, sym, ap, subst, ◌∙◌, append_assoc, append-nil, arith}
 use Rattle.std.specs.Cmp.{alike_right}
 use Rattle.std.specs.List.{AllByRecursion, last_or}
 use Rattle.std.specs.Ordering.{is_eq, is_gt, is_lt}
@@ -11,11 +11,11 @@ use Rattle.std.proofs.lemmas.List.Elements.{filter-append, filter_passes, recurs
 use Rattle.std.proofs.lemmas.Map.Text.{is_eq-slice_cmp}
 use Rattle.std.proofs.lemmas.Slice.Eq.{bytes_eq-Decides}
 use Rattle.key_order.specs.Map.{IsMap, get}
-use Rattle.key_order.specs.Order.{Same}
+use Rattle.key_order.specs.Order.{Below, Same, below}
 use Rattle.key_order.specs.Text.{Text as Key, text_order}
 use Rattle.key_order.proofs.Bools.{is_equal, is_greater}
-use Rattle.key_order.proofs.ListParts.{each-at}
-use Rattle.key_order.proofs.Orders.{turned'}
+use Rattle.key_order.proofs.ListParts.{each-at, map-before}
+use Rattle.key_order.proofs.Orders.{not_low_self, turned'}
 use Rattle.sqlite_value.specs.declared.value.Value.TheVariants.{Int, Text as Words, Blob}
 use Rattle.sqlite_value.specs.Keys.{plain, prefix_cmp}
 use Rattle.sqlite_value.specs.Order.{Row, column, value_cmp}
@@ -23,13 +23,14 @@ use Rattle.sqlite_value.proofs.KeyLemmas.{first_key-plain}
 use Rattle.sqlite_value.proofs.OrderLemmas.{value_cmp_total, value_cmp-Null, value_cmp-Text, value_cmp-apart}
 use Rattle.sqlite_trees.specs.declared.store.Direction.TheVariants.{Forward}
 use Rattle.sqlite_trees.specs.Tree.{Trees, IsIndex, from_key, order_of, sought}
-use Rattle.sqlite_trees.specs.View.{View, Advances, with_cursor}
+use Rattle.sqlite_trees.specs.View.{View, with_cursor}
 use Rattle.sqlite_trees.proofs.ListLemmas.{all_weaker, ascending-filter, filter-filter, filter_none}
 use Rattle.sqlite_trees.proofs.TreeLemmas.{AtMost, IsSortedTree, from_key-filter, not_true, prefix_cmp_follows, sorted_index}
 use Rattle.store_file.specs.declared.register.Register.{Register}
 use Rattle.store_file.specs.Entries.{entry_row, entry_row_of}
 use Rattle.store_file.specs.Latest.{rows_of}
-use Rattle.store_file.specs.Ranges.{above_bound, below_bound, is_between, row_above, HasSet, AreLatestBetween}
+use Rattle.store_file.specs.Ranges.{above_bound, below_bound, is_between, row_above, HasSet, AreLatestBetween, TakesBelow}
+use Rattle.store_file.specs.Reading.{TakesEntry}
 use Rattle.store_file.proofs.LastRow.{last_or-append, prefix_cmp-column}
 use Rattle.store_file.proofs.Walking.{some_same}
 
@@ -93,6 +94,10 @@ between_same after before a b tied = λ i. above_same after a b tied i && below_
 
 both : (a b : Bool) → a ≡ true → b ≡ true → a && b ≡ true
 both a b h k = rw (h, k) refl
+
+not_both_parts : (a b : Bool) → a && b ≡ false → b ≡ true → a ≡ false
+not_both_parts true b h k = absurd (let e = h in cc)
+not_both_parts false b h k = refl
 
 parts : (a b : Bool) → a && b ≡ true → (a ≡ true) × (b ≡ true)
 parts true b h = (refl, h)
@@ -227,56 +232,65 @@ module _ (after before : Option Key) where
     abbrev pub sought_rows : List Row
     sought_rows = from_key plain (row_above after) (trees 0)
 
-    module _ (rows : List Entry) (row : Row) (found : Bool) (a b : View) (was : IsRanging after before sought_rows rows a) (went : Advances a b 0 row found) where
+    module _ (rows : List Entry) (a b : View) (was : IsRanging after before sought_rows rows a) where
       -- the rows that were left
       left_is : (xs : List Row) → a.cursors 0 ≡ Some xs → was.left ≡ xs
       left_is xs at = some_same (sym was.cursor ∙ at)
 
-      -- where the entry of the row is below the bound, and its register is set, the walk goes on
-      pub goes_on : (new : List Entry) (e : Entry) → found ≡ true → row ≡ entry_row e → below_bound before e.0 ≡ true → HasSet rows e new → IsRanging after before sought_rows new b
-      goes_on new e here told low now = by found here went
-        where
-          by : (f : Bool) → f ≡ true → Advances a b 0 row f → IsRanging after before sought_rows new b
-          by false never went = absurd (let k = never in cc)
-          by true same went =
-              let is : sought_rows ≡ map entry_row was.seen ++ entry_row e ∷ went.0 =
-              was.is ∙ ap (λ xs. map entry_row was.seen ++ xs) (left_is (row ∷ went.0) went.1) ∙ ap (λ r. map entry_row was.seen ++ r ∷ went.0) told in
-              record {
-                left = went.0;
-                seen = was.seen ++ e ∷ [];
-                cursor = rw went.2 refl;
-                is = is ∙ sym (append_assoc (map entry_row was.seen) (entry_row e ∷ []) went.0) ∙ ap (λ front. front ++ went.0) (sym (map-append entry_row was.seen (e ∷ [])));
-                ascending = now.ascending was.ascending;
-                last = keeps_more was.seen rows new e was.last was.ascending now;
-                others = between_more after before rows new e was.others was.ascending now
-                    (both (above_bound after e.0) (below_bound before e.0) (read_above after before (trees 0) up was.seen e went.0 is) low);
-              }
+      -- the rows with the entry that it comes to
+      came : (e : Entry) (went : TakesEntry a b (Some e)) → sought_rows ≡ map entry_row was.seen ++ entry_row e ∷ went.0
+      came e went = was.is ∙ ap (λ xs. map entry_row was.seen ++ xs) (left_is (entry_row e ∷ went.0) went.1)
 
-      ends : (left : List Row) → sought_rows ≡ map entry_row was.seen ++ left → ((k : Key) → below_bound before k ≡ true → rows_of (string_bytes k) left ≡ [])
-          → AreLatestBetween after before trees rows
-      ends left is none = record {
+      -- where an entry comes whose key is below the bound, and its register is set, the walk goes on
+      pub goes_on : (new : List Entry) (e : Entry) → TakesBelow before a b (Some e) → HasSet rows e new → IsRanging after before sought_rows new b
+      goes_on new e (low, went) now =
+          let is = came e went in
+          record {
+            left = went.0;
+            seen = was.seen ++ e ∷ [];
+            cursor = went.2;
+            is = is ∙ sym (append_assoc (map entry_row was.seen) (entry_row e ∷ []) went.0) ∙ ap (λ front. front ++ went.0) (sym (map-append entry_row was.seen (e ∷ [])));
+            ascending = now.ascending was.ascending;
+            last = keeps_more was.seen rows new e was.last was.ascending now;
+            others = between_more after before rows new e was.others was.ascending now
+                (both (above_bound after e.0) (below_bound before e.0) (read_above after before (trees 0) up was.seen e went.0 is) low);
+          }
+
+      -- where no entry of a key between two bounds is left, all that are were read
+      found_between : (high : Option Key) (left : List Row) → sought_rows ≡ map entry_row was.seen ++ left → ((k : Key) → below_bound high k ≡ true → rows_of (string_bytes k) left ≡ [])
+          → KeepsBetween after high rows → AreLatestBetween after high trees rows
+      found_between high left is none others = record {
         ascending = was.ascending;
         latest = λ k within.
-            let (high, low) = parts (above_bound after k) (below_bound before k) within in
-            last_read after before (trees 0) up was.seen left k is high (none k low) ∙ was.last k;
-        others = was.others;
+            let (above, low) = parts (above_bound after k) (below_bound high k) within in
+            last_read after before (trees 0) up was.seen left k is above (none k low) ∙ was.last k;
+        others = others;
       }
 
-      -- at the end of the rows all were read
-      pub ends_all : found ≡ false → AreLatestBetween after before trees rows
-      ends_all gone = by found gone went
-        where
-          by : (f : Bool) → f ≡ false → Advances a b 0 row f → AreLatestBetween after before trees rows
-          by true never went = absurd (let k = never in cc)
-          by false same went = ends [] (was.is ∙ ap (λ xs. map entry_row was.seen ++ xs) (left_is [] went.0)) (λ k low. refl)
+      -- where none comes, all were read
+      pub ends_all : TakesBelow before a b None → AreLatestBetween after before trees rows
+      ends_all (inl went) = found_between before [] (was.is ∙ ap (λ xs. map entry_row was.seen ++ xs) (left_is [] went.0)) (λ k low. refl) was.others
+      ends_all (inr (e, out, went)) =
+          let is = came e went in
+          found_between before (entry_row e ∷ went.0) is (λ k low. none_left after before (trees 0) up was.seen e went.0 is before k out low) was.others
 
-      -- at an entry that isn't below the bound all that are were read
-      pub ends_before : (e : Entry) → found ≡ true → row ≡ entry_row e → below_bound before e.0 ≡ false → AreLatestBetween after before trees rows
-      ends_before e here told out = by found here went
+      -- where one of a key above all comes, those up to it were read
+      pub ends_first : (e : Entry) → TakesBelow before a b (Some e) → IsMap text_order (rows ++ e ∷ []) → AreLatestBetween after (Some e.0) trees rows
+      ends_first e (low, went) higher =
+          let is = came e went in
+          let not_self : below text_order e.0 e.0 ≡ false = not_true (below text_order e.0 e.0) (not_low_self text_order string_cmp_total e.0) in
+          found_between (Some e.0) (entry_row e ∷ went.0) is (λ k under. none_left after before (trees 0) up was.seen e went.0 is (Some e.0) k not_self under)
+          (λ k out. others k out (below text_order k e.0) refl)
         where
-          by : (f : Bool) → f ≡ true → Advances a b 0 row f → AreLatestBetween after before trees rows
-          by false never went = absurd (let k = never in cc)
-          by true same went =
-              let is : sought_rows ≡ map entry_row was.seen ++ entry_row e ∷ went.0 =
-              was.is ∙ ap (λ xs. map entry_row was.seen ++ xs) (left_is (row ∷ went.0) went.1) ∙ ap (λ r. map entry_row was.seen ++ r ∷ went.0) told in
-              ends (entry_row e ∷ went.0) is (λ k low. none_left after before (trees 0) up was.seen e went.0 is before k out low)
+          none_from : (k : Key) (xs : List Entry) → AllByRecursion (λ (x : Entry). Below text_order x.0 e.0) xs → below text_order k e.0 ≡ false → get text_order xs k ≡ None
+          none_from k [] under above = refl
+          none_from k (x ∷ xs) under above = by (is_eq (text_order x.0 k)) refl (none_from k xs under.1 above)
+            where
+              by : (b : Bool) → is_eq (text_order x.0 k) ≡ b → get text_order xs k ≡ None → cond (is_eq (text_order x.0 k)) (Some x.1) (get text_order xs k) ≡ None
+              by true tied rest =
+                  absurd (let never : true ≡ false = sym under.0 ∙ ap is_lt (string_cmp_total.congr x.0 k e.0 (is_equal (text_order x.0 k) tied)) ∙ above in cc)
+              by false apart rest = ap (λ b. cond b (Some x.1) (get text_order xs k)) apart ∙ rest
+
+          others : (k : Key) → above_bound after k && below text_order k e.0 ≡ false → (b : Bool) → below text_order k e.0 ≡ b → get text_order rows k ≡ None
+          others k out true under = was.others k (ap (λ b. b && below_bound before k) (not_both_parts (above_bound after k) (below text_order k e.0) out under))
+          others k out false above = none_from k rows (map-before text_order rows e [] higher) above

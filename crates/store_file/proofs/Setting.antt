@@ -1,5 +1,5 @@
 -- A map with its last key set, or one after it.
-use Rattle.std.proofs.Common.{◌≡◌, Bool, true, false, cond, List, [], ◌∷◌, ◌++◌, Option, Some, length, refl, sym, ap, subst, ◌∙◌, append-nil, arith}
+use Rattle.std.proofs.Common.{◌≡◌, ◌≢◌, Bool, true, false, cond, List, [], ◌∷◌, ◌++◌, Option, Some, None, length, refl, sym, ap, subst, ◌∙◌, append-nil, arith}
 use Rattle.std.specs.Cmp.{IsTotalOrder}
 use Rattle.std.specs.List.{AllByRecursion}
 use Rattle.std.specs.Ordering.{is_eq}
@@ -14,7 +14,7 @@ use Rattle.key_order.proofs.Orders.{turned', low_low, low_up, same_up}
 use Rattle.key_order.proofs.Sets.{ascending_set, get_set}
 use Rattle.sqlite_trees.proofs.ListLemmas.{all_weaker}
 use Rattle.store_file.specs.declared.register.Register.{Register}
-use Rattle.store_file.specs.Ranges.{HasSet}
+use Rattle.store_file.specs.Ranges.{HasPassed, HasSet}
 
 abbrev Entry : Type 0
 Entry = Key × Register
@@ -85,3 +85,35 @@ put_over front m new last e tied was is = record {
         ap (λ found. cond (is_eq (text_order e.0 key)) (Some e.1) found)
         (before.set first key ∙ ap (λ o. cond (is_eq o) (Some last.1) (get text_order front key)) (string_cmp_total.congr last.0 e.0 key tied))
         ∙ twice (is_eq (text_order e.0 key)) (Some e.1) (Some last.1) (get text_order front key)
+
+module _ {T : Type 0} (Took : T → T → List Entry → Bool → Type 0) (first new : T) where
+  -- where an entry comes of a key after the last one, that is taken
+  pub passed_on : (rows : List Entry) (row e : Entry) (more : Bool) → Below text_order row.0 e.0 → Took first new (rows ++ row ∷ []) more → HasPassed Took first new (Some row) e more rows
+  passed_on rows row e more low took = record {
+    given = rows ++ row ∷ [];
+    took = took;
+    set = put_after rows (rows ++ row ∷ []) (rows ++ row ∷ []) ((rows ++ row ∷ []) ++ e ∷ []) row e low refl refl refl;
+    full = λ _. (some rows, refl);
+  }
+    where
+      some : (xs : List Entry) → xs ++ row ∷ [] ≢ []
+      some [] none = (let k = none in cc)
+      some (x ∷ xs) none = (let k = none in cc)
+
+  -- where it is of the last one's key, nothing is
+  pub passed_over : (rows : List Entry) (row e : Entry) → Same text_order row.0 e.0 → Took first new rows true → HasPassed Took first new (Some row) e true rows
+  passed_over rows row e tied took = record {
+    given = rows;
+    took = took;
+    set = put_over rows (rows ++ row ∷ []) (rows ++ e ∷ []) row e tied refl refl;
+    full = λ less. absurd (let k = less in cc);
+  }
+
+  -- where there is no last one, it is the first
+  pub passed_first : (rows : List Entry) (e : Entry) → rows ≡ [] → Took first new rows true → HasPassed Took first new None e true rows
+  passed_first rows e none took = record {
+    given = rows;
+    took = took;
+    set = put_only (rows ++ []) rows (rows ++ e ∷ []) e (ap length (append-nil rows) ∙ ap length none) refl refl;
+    full = λ less. absurd (let k = less in cc);
+  }

@@ -69,7 +69,7 @@ pub fn begin<S: Store>(alloc: Global, log: &mut Log<S>) -> Result<Walk, StoreFau
 }
 
 /// The entry of the next row, if there is one.
-fn take_entry<S: Store>(
+pub(crate) fn take_entry<S: Store>(
     alloc: Global,
     trees: &mut S,
     row: &mut Row,

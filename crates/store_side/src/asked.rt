@@ -4,7 +4,7 @@ ghost use Rattle.key_order.specs.Map.{IsMap};
 ghost use Rattle.key_order.specs.Text.{text_order};
 ghost use Rattle.store_file.specs.Latest.{IsLatestAt};
 ghost use Rattle.store_file.specs.Logs.{Finds, HasEntryTable};
-ghost use Rattle.store_file.specs.Ranges.{AreLatestBetween};
+ghost use Rattle.store_file.specs.Ranges.{AreLatestBetween, HasVisited};
 ghost use Rattle.store_file.specs.Transactions.{CommitsNothing};
 ghost use Rattle.store_file.specs.Walks.{MakesView, StaysBut};
 ghost use Rattle.store_side.specs.Asked.{IsDigestOf, IsSomeKey};
@@ -15,7 +15,7 @@ use sqlite_trees::store::Store;
 use std::alloc::Global;
 use store_file::Register;
 use store_file::latest::latest_at;
-use store_file::range::{first_key, latest_between};
+use store_file::range::{RowVisitor, first_key, latest_between, visit_between};
 use store_file::table::Entries;
 use store_rows::LatestDigests;
 use store_tree::TreeFault;
@@ -71,6 +71,24 @@ pub(crate) fn rows_of<S: Store>(
         return Err(TreeFault::Malformed);
     }
     Ok(rows)
+}
+
+/// Hands the keys above one and below another, where there are these, each with its latest register, to a visitor, as long as it takes them, and returns
+/// whether these are all.
+pub(crate) fn visit_rows_of<S: Store, T: RowVisitor>(
+    alloc: Global,
+    trees: &mut S,
+    after: &Option<String>,
+    before: &Option<String>,
+    visitor: &mut T,
+) -> Result<bool, TreeFault>
+    requires entries { HasEntryTable S.Store trees.old }
+    ensures visited { Finds S.Store trees.old trees.new result (HasVisited T.took visitor.old visitor.new after.now before.now) }
+    ensures same { MakesView S.Store trees.old trees.new result StaysBut }
+    ensures uncommitted { CommitsNothing S.Store trees.old trees.new }
+{
+    let whole = visit_between(alloc, trees, after, before, visitor)?;
+    Ok(whole)
 }
 
 /// The digest of the latest register of a key, where it has one.

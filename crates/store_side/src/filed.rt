@@ -8,19 +8,20 @@ ghost use Rattle.merkle_wire.specs.Sessions.{IsKeyOf};
 ghost use Rattle.sqlite_trees.specs.View.{IsRolledBack};
 ghost use Rattle.store_file.specs.Logs.{IsClean};
 ghost use Rattle.store_file.specs.Transactions.{StaysQuiet};
-ghost use Rattle.store_side.specs.Answered.{AreRowsBetween, IsFileOutline, IsRegisterAt, IsFileRoot};
+ghost use Rattle.store_side.specs.Answered.{AreRowsBetween, HasVisitedRows, IsFileOutline, IsRegisterAt, IsFileRoot};
 ghost use Rattle.store_rows.specs.Digests.{digest_rows};
 ghost use Rattle.store_side.specs.FileTrees.{IsFile, IsPageLacked, IsPageThere, KeepsFile, SaysFilePage, TellsFile};
 ghost use Rattle.store_tree.specs.Pages.{text_gap};
 ghost use Rattle.store_tree.specs.Rows.{bound_bytes};
 
-use crate::asked::{digest_of, latest_of, rows_of, some_key};
+use crate::asked::{digest_of, latest_of, rows_of, some_key, visit_rows_of};
 use merkle_digest::{PageDigest, ValueDigest};
 use merkle_search_tree::Gap;
 use sqlite_trees::error::StoreError;
 use sqlite_trees::store::Store;
 use std::alloc::Global;
 use store_file::Register;
+use store_file::range::RowVisitor;
 use store_file::table::Entries;
 use store_rows::LatestDigests;
 use store_tree::TreeFault;
@@ -214,7 +215,8 @@ pub(crate) fn find_rows<S: Store>(
     before: &Option<String>,
 ) -> Result<Entries, TreeFault>
     requires file { IsFile S.Store _digests.now trees.old }
-    ensures rows { TellsFile S.Store _digests.now trees.old trees.new result (AreRowsBetween after.now before.now) }
+    ensures rows { TellsFile S.Store _digests.now trees.old trees.new result
+        (λ rows found. AreRowsBetween after.now before.now rows found.items) }
     ensures ascending { IfOk result (λ rows. IsMap text_order rows.items) }
     ensures kept { KeepsFile S.Store _digests.now trees.old trees.new }
     ensures steady { IsClean S.Store trees.new → IsClean S.Store trees.old }
@@ -224,4 +226,26 @@ pub(crate) fn find_rows<S: Store>(
     }
     let found = rows_of(alloc, trees, after, before);
     settle(trees, found)
+}
+
+/// Hands the keys above one and below another, where there are these, each with its latest register, to a visitor, as long as it takes them, and returns
+/// whether these are all.
+pub(crate) fn visit_rows<S: Store, T: RowVisitor>(
+    alloc: Global,
+    trees: &mut S,
+    _digests: &LatestDigests,
+    after: &Option<String>,
+    before: &Option<String>,
+    visitor: &mut T,
+) -> Result<bool, TreeFault>
+    requires file { IsFile S.Store _digests.now trees.old }
+    ensures rows { TellsFile S.Store _digests.now trees.old trees.new result (HasVisitedRows T.took visitor.old visitor.new after.now before.now) }
+    ensures kept { KeepsFile S.Store _digests.now trees.old trees.new }
+    ensures steady { IsClean S.Store trees.new → IsClean S.Store trees.old }
+{
+    if trees.is_broken() {
+        return Err(TreeFault::Database(StoreError::Broken));
+    }
+    let whole = visit_rows_of(alloc, trees, after, before, visitor);
+    settle(trees, whole)
 }

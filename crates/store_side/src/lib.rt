@@ -6,7 +6,9 @@ mod file_replica;
 mod filed;
 pub mod laws;
 mod noted;
+mod page_rows;
 mod told;
 pub mod tree_side;
+mod visitors;
 
 pub use tree_side::FileTree;

@@ -114,12 +114,12 @@ impl<S: Store> KeptTree<DIGEST_LEN, String, Register, SipHasher> for FileTree<S>
     }
 }
 
-/// The tree and the rows of a store in its file, for a session that answers a peer. Pages are told by digests, so a peer asks for the rows that it
-/// lacks by their keys.
+/// The tree and the rows of a store in its file, for a session that answers a peer. A page that has no page below it is told by its rows where these are
+/// short, and all others by digests, so a peer asks for the rows of these that it lacks by their keys.
 ///
 /// `root_digest` costs what [`root_digest`](store_tree::root::root_digest) says, `count` what [`count_keys`](store_tree::root::count_keys) says,
-/// `tell_page` what [`outline_over`](store_tree::outline::outline_over) says, and `add_value` a look into the table of entries. `add_part` reads the
-/// entries of all keys in the gap, and takes memory for the latest of each.
+/// `tell_page` what [`outline_over`](store_tree::outline::outline_over) says and the reading of the rows that it tells, and `add_value` a look into the table of entries. `add_part` reads the
+/// entries of the keys that it tells and of one more, and takes memory for their bytes.
 impl<S: Store> KeptSide<DIGEST_LEN, String, Register, SipHasher, ()> for FileTree<S> {
     type Error = TreeFault;
 

@@ -14,8 +14,8 @@ returns-clause-rows g c =
     let hash_key = c.args._digests.now in
     settled_tells s g.met.S.Store.broken_if_shut old mid c.rows_of-found.ensures.uncommitted c.settle.new.trees c.settle.result c.rows_of-found.result c.settle.ensures.same c.settle.ensures.kept
     (λ clean. sym (c.is_broken.ensures clean) ∙ (search rules)) hash_key (λ found. AreLatestBetween c.args.after.now c.args.before.now (trees_of s old) found.items)
-    (AreRowsBetween c.args.after.now c.args.before.now) c.rows_of-found.ensures.latest
-    (λ found latest rows has. rows_between c.args.after.now c.args.before.now (trees_of s old) rows found has.latest latest)
+    (λ rows found. AreRowsBetween c.args.after.now c.args.before.now rows found.items) c.rows_of-found.ensures.latest
+    (λ found latest rows has. rows_between c.args.after.now c.args.before.now (trees_of s old) rows found.items has.latest latest)
 
 pub returns-clause-kept : goal.returns-clause-kept
 returns-clause-kept g c rows was =

@@ -1,16 +1,19 @@
-use Rattle.std.proofs.Common.{map, ap, ◌∙◌}
-use Rattle.key_order.specs.Text.{text_order}
-use Rattle.merkle_tree_theory.specs.Gap.{pairs_within}
-use Rattle.merkle_wire.specs.Gaps.{owned_gap}
-use Rattle.merkle_wire.specs.ToldAlike.{told_row}
+use Rattle.std.proofs.Common.{◌≡◌, ◌-◌, [], length, ap, subst, ◌∙◌}
+use Rattle.merkle_bytes.specs.Runs.{bound_key}
+use Rattle.merkle_wire.specs.Parts.{HasTold}
 use Rattle.store_file.specs.WireRegisters.{register_encoding}
 use Rattle.store_side.specs.Answered.{text_encoding}
-use Rattle.store_side.proofs.Answering.{rows_told}
+use Rattle.store_side.proofs.Answering.{begin_rows}
 use Rattle.store_side.proofs.told.add_rows.Goals as goal
 
 pub returns-clause-part : goal.returns-clause-part
 returns-clause-part g c clean rows was =
     let gap = c.args.gap.now in
-    c.equal_bytes_are_told_alike.ensures.parts c.deref.result.now rows c.args.most_bytes gap c.args.bytes.now c.tell_part.new.bytes
-    (ap (λ found. map (told_row text_encoding register_encoding) (pairs_within text_order (owned_gap gap) found)) c.deref.ensures.value
-    ∙ rows_told rows gap c.in_ok-rows.rows (c.in_ok-rows.ensures.rows clean rows was)) c.in_ok-tell_part.ensures
+    let most = c.args.most_bytes in
+    let (found, more, took, first, full) = c.in_ok-whole.ensures.rows clean rows was in
+    let (others, begin, ends, some) = begin_rows rows gap found c.in_ok-whole.whole first in
+    let is = c.in_ok-begin.ensures in
+    let begun : c.in_ok-begin.field-0 ≡ record { room = most - length c.args.bytes.now.items; count = 0; last = bound_key text_encoding [] gap.after; bytes = [] } =
+    λ i. record { room = (is.room ∙ ap (λ bytes. most - length bytes) c.deref.ensures.value) i; count = is.count i; last = is.last i; bytes = is.bytes i } in
+    c.in_ok-end.ensures most gap found rows others more (subst (λ part. HasTold text_encoding register_encoding part c.in_ok-whole.new.visitor.part found more) begun took) begin ends
+    (λ less. (some less, full less))
