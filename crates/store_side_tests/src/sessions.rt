@@ -243,3 +243,80 @@ fn a_file_brings_and_tells_what_a_replica_does(rt: HostRuntime) -> Result<(), Fa
     }
     Ok(())
 }
+
+/// How many bytes replies may have, and how many entries the peer is given.
+const PARTS: [(usize, u64); 4] = [(1, 10), (40, 40), (200, 40), (MOST_BYTES, 40)];
+
+/// The reply of a file to a message, where a replica with its rows replies with the same bytes.
+fn same_reply<P: KeptSide<16, String, Register, SipHasher, ()>>(
+    alloc: Global,
+    peer: &mut EntryReplica,
+    file: &mut P,
+    message: &[u8],
+    most_bytes: usize,
+) -> Result<Vec<u8>, Fail> {
+    let Ok(reply) = answer_by(alloc, peer, &(), message, most_bytes) else {
+        return Err(Fail::new("no reply"));
+    };
+    let Ok(told) = answer_by(alloc, file, &(), message, most_bytes) else {
+        return Err(Fail::new("no reply of the file"));
+    };
+    if reply != told {
+        return Err(Fail::new("another reply"));
+    }
+    Ok(told)
+}
+
+/// The rows that a replica without rows brings of a file, of which each reply is that of a replica with its rows, and how many replies these are.
+fn brought_in_parts<P: KeptSide<16, String, Register, SipHasher, ()>>(
+    alloc: Global,
+    peer: &mut EntryReplica,
+    file: &mut P,
+    most_bytes: usize,
+) -> Result<(Rows, usize), Fail> {
+    let mut side = blank(alloc);
+    let Ok((mut session, mut message)) = CatchingUp::<String, Register>::begin_by(alloc, &mut side)
+    else {
+        return Err(Fail::new("no question"));
+    };
+    for replies in 1..1000 {
+        let reply = same_reply(alloc, peer, file, &message, most_bytes)?;
+        match session.take_by(&mut side, 0, &reply) {
+            Ok(Next::Ask(next, question)) => {
+                session = next;
+                message = question;
+            }
+            Ok(Next::Came(rows)) => return Ok((rows, replies)),
+            Err(_) => return Err(Fail::new("not taken")),
+        }
+    }
+    Err(Fail::new("no end"))
+}
+
+/// Whether a replica without rows brings all rows of a file in parts of this many bytes, in more replies where they have room for one row.
+fn parts_bring_all(alloc: Global, most_bytes: usize, times: u64) -> Result<bool, Fail> {
+    let mut random = Random::new(times);
+    let given = random_given(alloc, &mut random, 60, times)?;
+    let expected = lacked(alloc, &[], &given, 60)?;
+    let mut peer = replica_of(alloc, &given)?;
+    let writes = writes_of(alloc, &given)?;
+    let Some(mut file) = side_after(alloc, empty(alloc)?, &HASH_KEY, &writes)? else {
+        return Err(Fail::new("no table of cells"));
+    };
+    let brought = brought_in_parts(alloc, &mut peer, &mut file, most_bytes);
+    let _trees = file.into_trees();
+    let (rows, replies) = brought?;
+    let enough = most_bytes > 1 || replies > rows.len();
+    Ok(!expected.is_empty() && rows == expected && enough)
+}
+
+#[test]
+fn a_file_tells_rows_in_parts_as_a_replica_does(rt: HostRuntime) -> Result<(), Fail> {
+    for (most_bytes, times) in PARTS {
+        assert!(rt;
+            parts_bring_all(rt.alloc(), most_bytes, times)?,
+            "{most_bytes} {times}"
+        );
+    }
+    Ok(())
+}
