@@ -39,7 +39,8 @@ returns-in-Came-clause-came g c = λ sound.
     let session = c.messages.session in
     let is_next = IsNext entry_laws 16 text_key_encoding register_encoding in
     let taken = subst (λ n. is_next (side local) session c.deref-in-Reply.result.now n) c.in-Came.is
-    (of_side (g.S.KeptTree.kept c.messages.side).digests local (inv.rows old) (λ own. is_next own session c.deref-in-Reply.result.now _) (c.in_ok-next-in-Reply.ensures.next sound)) in
+    (of_side (g.S.KeptTree.kept c.messages.side).digests local (inv.rows old)
+    (λ own. is_next own session c.deref-in-Reply.result.now c.in_ok-next-in-Reply.field-0) (c.in_ok-next-in-Reply.ensures.next sound)) in
     comes_to local c.args.most (g.W.Write.contents c.args.to.now, g.R.Read.remaining c.args.from.now) (g.W.Write.contents c.messages.to, g.R.Read.remaining c.messages.from)
     (g.W.Write.contents c.ask.new.to, g.R.Read.remaining c.ask.new.from) session c.messages.deltas c.messages.message c.in_ok-reply.reply.items (inv.come old)
     (subst (λ m. Appends (g.W.Write.contents c.messages.to) (g.W.Write.contents c.ask.new.to) (frame_of m)) c.deref.ensures.value c.in_ok-reply.ensures.sent)
@@ -76,7 +77,7 @@ messages-preserved g c =
           let is : g.S.KeptTree.is_sound w.message_for.new.side → is_next (side local) session w.in-Reply.plain.items next = λ sound.
           subst (λ r. is_next (side local) session r next) w.deref-in-Reply.ensures.value
           (subst (λ n. is_next (side local) session w.deref-in-Reply.result.now n) w.in-Ask.is
-          (of_side (g.S.KeptTree.kept c.messages.side).digests local (inv.rows (old sound)) (λ own. is_next own session w.deref-in-Reply.result.now _)
+          (of_side (g.S.KeptTree.kept c.messages.side).digests local (inv.rows (old sound)) (λ own. is_next own session w.deref-in-Reply.result.now w.in_ok-next-in-Reply.field-0)
           (w.in_ok-next-in-Reply.ensures.next (taken sound)))) in
           rw (w.side-is, w.session-is, w.message-is, w.deltas-is) (record {
             come = λ sound. goes_on local most before mid after session c.messages.deltas c.messages.message reply (inv.come (old sound)) sent c.in_ok-reply.ensures.came

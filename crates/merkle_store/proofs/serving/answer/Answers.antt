@@ -1,11 +1,11 @@
 use Rattle.merkle_store.proofs.serving.answer.Goals as goal
 
-pub returns-clause-answered : goal.returns-clause-answered
-returns-clause-answered c = record {
-  checksums = c.in_ok-checksums.checksums;
-  question = c.in_ok-checksums.question.now;
+pub returns-in-Ok-tell-clause-answered : goal.returns-in-Ok-tell-clause-answered
+returns-in-Ok-tell-clause-answered g c = λ sound. record {
+  checksums = c.in-Ok.read.0;
+  question = c.in-Ok.read.1.now;
   plain = c.in_ok-plain.plain;
-  asked = c.in_ok-checksums.ensures.asked;
-  answered = c.in_ok-plain.ensures.answered;
-  told = c.in_ok-tell.ensures;
+  asked = c.in-Ok.ensures.asked;
+  answered = c.in_ok-plain.ensures.answered sound;
+  told = c.in-Ok-tell.ensures;
 }
