@@ -15,9 +15,10 @@ use Rattle.merkle_wire.specs.declared.outlines.Telling.{Telling}
 use Rattle.merkle_wire.specs.declared.question.Question.{Question}
 use Rattle.merkle_wire.specs.declared.wanted.Wanted.{Wanted}
 
--- the message asks a question, and this is the reply to it by the rows before and the tree after
-abbrev pub IsAnsweredOf : {K V H : Type 0} → Laws K V H → ℕ → (K → List ℕ) → (V → List ℕ) → Contents K V H → Contents K V H → List ℕ → Vec ℕ → Type 0
-IsAnsweredOf laws n encoding values before after message reply = IsAnsweredBy laws n encoding values before.rows after.tree message reply
+module _ {K V H : Type 0} (laws : Laws K V H) (n : ℕ) (encoding : K → List ℕ) (values : V → List ℕ) where
+  -- the message asks a question, and this is the reply to it by the rows before and the tree after
+  abbrev pub IsAnsweredOf : Contents K V H → Contents K V H → List ℕ → Vec ℕ → Type 0
+  IsAnsweredOf before after message reply = IsAnsweredBy laws n encoding values before.rows after.tree message reply
 
   -- what a side would reply itself to a question, where it replies: the reply by the rows before and the tree after
   abbrev pub IsOwnReply : Contents K V H → Contents K V H → Question K → Option (Vec ℕ) → Type 0
