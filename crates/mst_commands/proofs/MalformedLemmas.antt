@@ -1,6 +1,6 @@
 -- Texts of CSV that are refused.
 use Rattle.std.proofs.Common.{◌≡◌, ℕ, Bool, ◌^◌, ◌<◌, ◌≤◌, true, false, List, [], ◌∷◌, length, Option, Some, None, Result, Ok, Err, inl, inr, refl, ap, sym, subst, ◌∙◌, string_bytes, arith}
-use Rattle.std.specs.Prelude.{IfErr, IfSome, IsSomeAnd}
+use Rattle.std.specs.Prelude.{IfErr, IfSome, IsErrAnd, IsSomeAnd}
 use Rattle.std.specs.Str.{IsUtf8}
 use Rattle.std.specs.Str.Parse.{IsNumeral, digits_value, without_leading_plus}
 use Rattle.std.proofs.lemmas.Str.{IsUtf8-string_bytes}
@@ -16,7 +16,7 @@ use Rattle.mst_commands.specs.declared.fault.Fault.{Fault}
 use Rattle.mst_commands.specs.declared.fault.Fault.TheVariants as fault
 
 -- what an end for one reason says, it says of what follows from the reason
-pub ends-for : {P Q R S : Type 0} (why : Fault) → (P → R) → (Q → S) → EndsFor P Q why → EndsFor R S why
+ends-for : {P Q R S : Type 0} (why : Fault) → (P → R) → (Q → S) → EndsFor P Q why → EndsFor R S why
 ends-for (fault.NoHeader names) f g h = f h
 ends-for (fault.BadLine line why) f g h = g h
 ends-for (fault.Store why) f g h = tt
@@ -30,6 +30,12 @@ ends-for (fault.TooLong what) f g h = absurd h
 ends-for (fault.Future entry) f g h = absurd h
 ends-for (fault.Damaged rows) f g h = absurd h
 ends-for fault.System f g h = absurd h
+
+-- what a `?` returns ends for what follows from the reason of the call
+pub ends-with : {A P Q R S : Type 0} (result : Result A Fault) (why : Fault) → IsErrAnd result (λ end. end ≡ why) → (P → R) → (Q → S) → EndsFor P Q why
+    → IfErr result (EndsFor R S)
+ends-with (Ok done) why same f g h = absurd same
+ends-with {R = R} {S = S} (Err end) why same f g h = subst (EndsFor R S) (sym same) (ends-for why f g h)
 
 module _ {R : Type 0} (remaining : R → Option (List ℕ)) where
   -- the text begins with the records that a reader has read of it

@@ -79,19 +79,26 @@ fn value_of(alloc: Global, row: &ByteRecord, at: usize) -> Result<Value, Fault>
     Ok(Value::of(bytes))
 }
 
-/// Refuses a first record whose field at this place has another name.
-fn expect_name(row: &ByteRecord, at: usize, name: &str, names: &'static str) -> Result<(), Fault>
+/// The first line of a log, or of keys and values.
+fn header_of(is_log: bool) -> &'static str {
+    if is_log { LOG_HEADER } else { HEADER }
+}
+
+/// Refuses a first record whose field at this place isn't the one that the header has there, which is named so.
+fn expect_name(row: &ByteRecord, is_log: bool, at: usize, name: &str) -> Result<(), Fault>
+    requires { field_or_empty (header is_log) at ≡ name.now }
     ensures same { OnOk result (field_or_empty (fields_of row.now) at ≡ name.now) }
-    ensures other { IfErr result (EndsForHeader (field_or_empty (fields_of row.now) at ≢ name.now)) }
+    ensures other { IfErr result (EndsForHeader (fields_of row.now ≢ header is_log)) }
 {
     if field(row, at) == name.as_bytes() {
         Ok(())
     } else {
-        Err(Fault::NoHeader(names))
+        Err(Fault::NoHeader(header_of(is_log)))
     }
 }
 
 /// Refuses a first record that is not the header of keys and values.
+#[tactic(auto, unfolding(csv::specs::Records::field_at))]
 fn expect_pair_header(row: &ByteRecord) -> Result<(), Fault>
     ensures same { OnOk result (fields_of row.now ≡ header false) }
     ensures other { IfErr result (EndsForHeader (fields_of row.now ≢ header false)) }
@@ -99,12 +106,13 @@ fn expect_pair_header(row: &ByteRecord) -> Result<(), Fault>
     if row.len() != 2 {
         return Err(Fault::NoHeader(HEADER));
     }
-    expect_name(row, 0, "key", HEADER)?;
-    expect_name(row, 1, "value", HEADER)?;
+    expect_name(row, false, 0, "key")?;
+    expect_name(row, false, 1, "value")?;
     Ok(())
 }
 
 /// Refuses a first record that is not the header of a log.
+#[tactic(auto, unfolding(csv::specs::Records::field_at))]
 fn expect_log_header(row: &ByteRecord) -> Result<(), Fault>
     ensures same { OnOk result (fields_of row.now ≡ header true) }
     ensures other { IfErr result (EndsForHeader (fields_of row.now ≢ header true)) }
@@ -112,17 +120,12 @@ fn expect_log_header(row: &ByteRecord) -> Result<(), Fault>
     if row.len() != 5 {
         return Err(Fault::NoHeader(LOG_HEADER));
     }
-    expect_name(row, 0, "key", LOG_HEADER)?;
-    expect_name(row, 1, "time", LOG_HEADER)?;
-    expect_name(row, 2, "writer", LOG_HEADER)?;
-    expect_name(row, 3, "change", LOG_HEADER)?;
-    expect_name(row, 4, "value", LOG_HEADER)?;
+    expect_name(row, true, 0, "key")?;
+    expect_name(row, true, 1, "time")?;
+    expect_name(row, true, 2, "writer")?;
+    expect_name(row, true, 3, "change")?;
+    expect_name(row, true, 4, "value")?;
     Ok(())
-}
-
-/// The first line of a log, or of keys and values.
-fn header_of(is_log: bool) -> &'static str {
-    if is_log { LOG_HEADER } else { HEADER }
 }
 
 /// Refuses a first record that is no header.

@@ -1,9 +1,8 @@
 use Rattle.std.proofs.Common.{string_bytes, refl, sym, arith}
-use Rattle.std.proofs.lemmas.Result.{err_from_is_err_and}
 use Rattle.csv.specs.Records.{fields_of}
 use Rattle.store_file.specs.Values.{bytes_of_value}
 use Rattle.mst_commands.proofs.CsvLemmas.{two_fields}
-use Rattle.mst_commands.proofs.MalformedLemmas.{ends-for, no-key, long-text}
+use Rattle.mst_commands.proofs.MalformedLemmas.{ends-with, no-key, long-text}
 use Rattle.mst_commands.proofs.records.entry_of.Goals as goal
 
 pub returns-clause-says : goal.returns-clause-says
@@ -18,10 +17,8 @@ returns-clause-says c = record {
 
 pub returns-in_err-key-clause-none : goal.returns-in_err-key-clause-none
 returns-in_err-key-clause-none c =
-    let p = err_from_is_err_and c.from_residual.result c.from_residual.ensures.1 in
-    rw (p.1, p.2) (ends-for c.in_err-key.field-0.0 (λ no. no) (no-key (fields_of c.args.row.now)) c.in_err-key.ensures.none)
+    ends-with c.from_residual.result c.in_err-key.field-0.0 c.from_residual.ensures.1 (λ no. no) (no-key (fields_of c.args.row.now)) c.in_err-key.ensures.none
 
 pub returns-in_err-value-clause-none : goal.returns-in_err-value-clause-none
 returns-in_err-value-clause-none c =
-    let p = err_from_is_err_and c.from_residual-in_err-value.result c.from_residual-in_err-value.ensures.1 in
-    rw (p.1, p.2) (ends-for c.in_err-value.field-0.0 (λ no. no) (long-text (fields_of c.args.row.now)) c.in_err-value.ensures.long)
+    ends-with c.from_residual-in_err-value.result c.in_err-value.field-0.0 c.from_residual-in_err-value.ensures.1 (λ no. no) (long-text (fields_of c.args.row.now)) c.in_err-value.ensures.long

@@ -1,9 +1,8 @@
 use Rattle.std.proofs.Common.{List, ℕ, ◌∷◌, ap, refl, string_bytes, sym, ◌∙◌, arith}
-use Rattle.std.proofs.lemmas.Result.{err_from_is_err_and}
 use Rattle.csv.specs.Records.{fields_of}
 use Rattle.mst_commands.specs.Records.{field_or_empty}
 use Rattle.mst_commands.proofs.CsvLemmas.{five_fields}
-use Rattle.mst_commands.proofs.MalformedLemmas.{ends-for, no-change, no-log-key, no-writer}
+use Rattle.mst_commands.proofs.MalformedLemmas.{ends-with, no-change, no-log-key, no-writer}
 use Rattle.mst_commands.proofs.records.log_entry_of.Goals as goal
 
 pub returns-clause-says : goal.returns-clause-says
@@ -18,15 +17,12 @@ returns-clause-says c =
 
 pub returns-in_err-key-clause-none : goal.returns-in_err-key-clause-none
 returns-in_err-key-clause-none c =
-    let p = err_from_is_err_and c.from_residual-in_err-key.result c.from_residual-in_err-key.ensures.1 in
-    rw (p.1, p.2) (ends-for c.in_err-key.field-0.0 (λ no. no) (no-log-key (fields_of c.args.row.now)) c.in_err-key.ensures.none)
+    ends-with c.from_residual-in_err-key.result c.in_err-key.field-0.0 c.from_residual-in_err-key.ensures.1 (λ no. no) (no-log-key (fields_of c.args.row.now)) c.in_err-key.ensures.none
 
 pub returns-in_err-writer-clause-none : goal.returns-in_err-writer-clause-none
 returns-in_err-writer-clause-none c =
-    let p = err_from_is_err_and c.from_residual-in_err-writer.result c.from_residual-in_err-writer.ensures.1 in
-    rw (p.1, p.2) (ends-for c.in_err-writer.field-0.0 (λ no. no) (no-writer (fields_of c.args.row.now)) c.in_err-writer.ensures.none)
+    ends-with c.from_residual-in_err-writer.result c.in_err-writer.field-0.0 c.from_residual-in_err-writer.ensures.1 (λ no. no) (no-writer (fields_of c.args.row.now)) c.in_err-writer.ensures.none
 
 pub returns-in_err-value-clause-none : goal.returns-in_err-value-clause-none
 returns-in_err-value-clause-none c =
-    let p = err_from_is_err_and c.from_residual-in_err-value.result c.from_residual-in_err-value.ensures.1 in
-    rw (p.1, p.2) (ends-for c.in_err-value.field-0.0 (λ no. no) (no-change (fields_of c.args.row.now)) c.in_err-value.ensures.none)
+    ends-with c.from_residual-in_err-value.result c.in_err-value.field-0.0 c.from_residual-in_err-value.ensures.1 (λ no. no) (no-change (fields_of c.args.row.now)) c.in_err-value.ensures.none

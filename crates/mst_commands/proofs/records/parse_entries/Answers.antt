@@ -1,10 +1,9 @@
 use Rattle.std.proofs.Common.{◌≡◌, ℕ, Bool, List, [], ◌∷◌, ◌++◌, Option, Some, None, IfSome, MatchBool, true, false, refl, sym, subst, length-append, inl, inr, arith}
-use Rattle.std.proofs.lemmas.Result.{err_from_is_err_and}
 use Rattle.csv.specs.Records.{fields_of}
 use Rattle.mst_commands.specs.Records.{header, AreAll, HasEntries, HasRead, SayAll, SayEntries}
 use Rattle.mst_commands.specs.Malformed.{LacksHeader}
 use Rattle.mst_commands.proofs.CsvLemmas.{say_more}
-use Rattle.mst_commands.proofs.MalformedLemmas.{begins, ends-for, if-known}
+use Rattle.mst_commands.proofs.MalformedLemmas.{begins, ends-with, if-known}
 use Rattle.mst_commands.proofs.records.parse_entries.Goals as goal
 
 -- the records of a text that say these entries
@@ -59,23 +58,21 @@ returns-then-not-branch-2-clause-read g c =
 
 pub returns-in_err-read_next-clause-refused : goal.returns-in_err-read_next-clause-refused
 returns-in_err-read_next-clause-refused g c =
-    let p = err_from_is_err_and c.from_residual.result c.from_residual.ensures.1 in
-    rw (p.1, p.2) (ends-for c.in_err-read_next.field-0.0 (λ no. absurd no) (λ no. absurd no) c.in_err-read_next.ensures.faults)
+    ends-with c.from_residual.result c.in_err-read_next.field-0.0 c.from_residual.ensures.1 (λ no. absurd no) (λ no. absurd no) c.in_err-read_next.ensures.faults
 
 pub returns-in_err-expect_header-clause-refused : goal.returns-in_err-expect_header-clause-refused
 returns-in_err-expect_header-clause-refused g c =
     let text = g.R.Read.remaining c.args.from in
-    let p = err_from_is_err_and c.from_residual-in_err-expect_header.result c.from_residual-in_err-expect_header.ensures.1 in
     let one = found_one c.in_ok-read_next.field-0 _ _ c.if-not-branch.false (c.in_ok-read_next.ensures.read text [] c.reader_of-reader.ensures) in
     let first = fields_of c.read_next.new.row in
-    rw (p.1, p.2) (ends-for c.in_err-expect_header.field-0.0
+    ends-with c.from_residual-in_err-expect_header.result c.in_err-expect_header.field-0.0 c.from_residual-in_err-expect_header.ensures.1
     (λ other. if-known text (λ bytes begun. inr (first, begun, other)) (begins g.R.Read.remaining text (first ∷ []) c.read_next.new.reader one))
-    (λ no. absurd no) c.in_err-expect_header.ensures.other)
+    (λ no. absurd no) c.in_err-expect_header.ensures.other
 
 pub returns-in_err-read_next-2-clause-refused : goal.returns-in_err-read_next-2-clause-refused
 returns-in_err-read_next-2-clause-refused g c =
-    let p = err_from_is_err_and c.from_residual-in_err-read_next-2.result c.from_residual-in_err-read_next-2.ensures.1 in
-    rw (p.1, p.2) (ends-for c.in_err-read_next-2.field-0.0 (λ no. absurd no) (λ no. absurd no) c.in_err-read_next-2.ensures.faults)
+    ends-with c.from_residual-in_err-read_next-2.result c.in_err-read_next-2.field-0.0 c.from_residual-in_err-read_next-2.ensures.1
+    (λ no. absurd no) (λ no. absurd no) c.in_err-read_next-2.ensures.faults
 
 pub returns-in_err-entry-clause-refused : goal.returns-in_err-entry-clause-refused
 returns-in_err-entry-clause-refused g c =
@@ -83,7 +80,6 @@ returns-in_err-entry-clause-refused g c =
     let text = g.R.Read.remaining c.args.from in
     let fields = fields_of c.read_next-in-records.new.row in
     let all = header c.args.is_log ∷ records in
-    let p = err_from_is_err_and c.from_residual-in_err-entry.result c.from_residual-in_err-entry.ensures.1 in
     let one = found_one c.in_ok-read_next-2.field-0 _ _ c.if-not-branch-2.false (c.in_ok-read_next-2.ensures.read text all had) in
-    rw (p.1, p.2) (ends-for c.in_err-entry.field-0.0 (λ no. absurd no)
-    (λ none. if-known text (λ bytes begun. (records, (fields, begun, none))) (begins g.R.Read.remaining text (all ++ fields ∷ []) c.read_next-in-records.new.reader one)) c.in_err-entry.ensures.none)
+    ends-with c.from_residual-in_err-entry.result c.in_err-entry.field-0.0 c.from_residual-in_err-entry.ensures.1 (λ no. absurd no)
+    (λ none. if-known text (λ bytes begun. (records, (fields, begun, none))) (begins g.R.Read.remaining text (all ++ fields ∷ []) c.read_next-in-records.new.reader one)) c.in_err-entry.ensures.none
