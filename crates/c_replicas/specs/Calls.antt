@@ -10,7 +10,7 @@ use Rattle.merkle_tree_theory.specs.declared.page_format.PageFormat.{PageFormat}
 use Rattle.merkle_wire.specs.Underway.{nothing, Underway}
 use Rattle.merkle_wire.specs.Next.{IsNext, IsStopped}
 use Rattle.merkle_wire.specs.Questions.{AsksForRoot, question_bytes}
-use Rattle.merkle_wire.specs.Replies.{AsksWithOthers, IsAnsweredBy}
+use Rattle.merkle_wire.specs.Replies.{IsAnsweredBy}
 use Rattle.merkle_wire.specs.declared.catching_up.Next.{Next}
 use Rattle.merkle_wire.specs.declared.catching_up.Next.TheVariants.{Ask, Came}
 use Rattle.merkle_wire.specs.declared.session_error.SessionError.{SessionError}
@@ -41,6 +41,12 @@ SameSession old new = new.session ≡ old.session
 -- the message stays
 abbrev pub SameMessage : ByteReplica → ByteReplica → Type 0
 SameMessage old new = new.message ≡ old.message
+
+-- a call that answers leaves rows, settings and the catch-up, and the message too where it is refused memory
+pub record KeepsReplica (status : ℕ) (old new : ByteReplica) : Type 0 where
+  pub rows : SameRows old new
+  pub session : SameSession old new
+  pub message : status ≡ 1 → SameMessage old new
 
 -- the catch-up and the message stay
 abbrev pub SameTalk : ByteReplica → ByteReplica → Type 0
@@ -74,10 +80,6 @@ OnlyHashes old new = (new.replica.rows ≡ old.replica.rows) × (new.replica.tre
 abbrev pub IsAnswered : List ℕ → ByteReplica → ByteReplica → Type 0
 IsAnswered question old new = IsAnsweredBy byte_laws 16 key_encoding value_encoding old.replica.rows new.replica.tree question new.message
 
--- the question is for the root, with settings that are not those of the replica
-abbrev pub IsOfOthers : List ℕ → ByteReplica → Type 0
-IsOfOthers question new = AsksWithOthers byte_laws 16 key_encoding new.replica.tree question
-
 -- a catch-up began that asks for the root with the settings of the replica, and the message asks that; the replica stays
 pub record HasBegun (old new : ByteReplica) : Type 0 where
   pub begun : Underway (Vec ℕ) ByteValue
@@ -93,8 +95,9 @@ pub record HasTaken (reply : List ℕ) (next : Next (Vec ℕ) ByteValue) (old : 
   pub under_way : old.session ≡ Some before
   pub comes : IsNext byte_laws 16 key_encoding value_encoding (side old.replica) before reply next
 
--- the catch-up took the reply and asks on by the message; rows and settings stay
-pub record AsksOn (reply : List ℕ) (old new : ByteReplica) : Type 0 where
+-- the catch-up took the reply and asks on by the message, and no row is joined yet; rows and settings stay
+pub record AsksOn (reply : List ℕ) (joined : ℕ) (old new : ByteReplica) : Type 0 where
+  pub none_yet : joined ≡ 0
   pub asking : Underway (Vec ℕ) ByteValue
   pub taken : HasTaken reply (Ask asking new.message) old
   pub asks : new.session ≡ Some asking
@@ -142,9 +145,14 @@ pub record IsStoppedBy (reply : List ℕ) (status : ℕ) (old : ByteReplica) : T
   pub is : status ≡ early_status error
   pub stopped : IsStopped byte_laws 16 key_encoding value_encoding (λ _. ⊤) (λ _. ⊤) (side old.replica) before reply error
 
+-- a catch-up was under way and is over, and rows and settings stay: it could not go on with the reply, for an error of this status
+pub record IsGivenUp (reply : List ℕ) (status : ℕ) (old new : ByteReplica) : Type 0 where
+  pub dropped : IsDropped old new
+  pub stopped : IsStoppedBy reply status old
+
 -- what is done with a reply, by what comes after it
 abbrev pub IsTaken : List ℕ → Taken → ByteReplica → ByteReplica → Type 0
-IsTaken reply Asks old new = AsksOn reply old new
+IsTaken reply Asks old new = AsksOn reply 0 old new
 IsTaken reply (Joined count) old new = JoinsWhatCame reply count old new
 IsTaken reply (Cut count) old new = IsCutShort reply count old new
 IsTaken reply (Failed status) old new = IsDropped old new × IsEarly status × IsStoppedBy reply status old

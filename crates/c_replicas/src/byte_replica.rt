@@ -1,24 +1,21 @@
 //! What a handle holds: a replica of byte strings, the catch-up that it is in, and a message.
-ghost use Rattle.std.specs.Prelude.{◌≡◌, ◌≢◌, ◌⊎◌, None, Some, OnOk, OnErr, IfOk, length};
+ghost use Rattle.std.specs.Prelude.{◌≡◌, ◌⊎◌, None, Some, OnOk, OnErr, IfOk, length};
 ghost use Rattle.std.specs.Int.NonZero.{non_zero_u8_get};
 ghost use Rattle.c_values.specs.Keys.{key_items, key_cmp};
 ghost use Rattle.c_values.specs.Lists.{row_list};
 ghost use Rattle.key_order.specs.Map.{IsMap};
 ghost use Rattle.merkle_tree_theory.specs.Stream.{page_digest};
-ghost use Rattle.merkle_wire.specs.Messages.{front};
-ghost use Rattle.merkle_wire.specs.declared.message.Kind.TheVariants.{Refusal};
-ghost use Rattle.c_replicas.specs.Calls.{HasBegun, IsAnswered, IsFresh, IsOfOthers, JoinsOrCuts, IsPut, OnlyHashes};
-ghost use Rattle.c_rows.specs.Ends.{IsNoQuestion};
-ghost use Rattle.c_replicas.specs.Calls.{SameRows, TakesReply};
+ghost use Rattle.c_rows.specs.Ends.{MeansRefusal};
+ghost use Rattle.c_replicas.specs.Calls.{HasBegun, IsAnswered, IsFresh, IsPut, JoinsOrCuts, KeepsReplica, OnlyHashes, TakesReply};
 ghost use Rattle.c_replicas.specs.Values.{IsFoundAt, byte_rows};
 
-use c_rows::status::{OTHER_SETTINGS, status_of};
-use c_rows::{ByteValue, encode};
-use c_values::status::{DONE, MALFORMED, MEMORY};
+use c_rows::status::status_of;
+use c_rows::{ByteValue, encode, fail};
+use c_values::status::DONE;
 use merkle_digest::SipHasher;
 use merkle_replica::{JoinRefused, Replica};
 use merkle_search_tree::builder::{Builder, PageFormat};
-use merkle_wire::{AnswerError, CatchingUp, Next, answer, refusal};
+use merkle_wire::{CatchingUp, Next, answer};
 use std::alloc::{AllocError, Global};
 use std::num::NonZeroU8;
 
@@ -126,12 +123,8 @@ impl ByteReplica {
     /// memory is refused, the message is as before.
     pub fn answer(&mut self, alloc: Global, question: &[u8]) -> u32
         ensures done { result ≡ 0 → IsAnswered question.now self.old self.new }
-        ensures malformed { result ≡ 2 → IsNoQuestion question.now }
-        ensures others { result ≡ 6 → IsOfOthers question.now self.new }
-        ensures refusal { result ≢ 0 → result ≢ 1 → self.new.message.items ≡ front Refusal }
-        ensures memory { result ≡ 1 → self.new.message ≡ self.old.message }
-        ensures kept { SameRows self.old self.new }
-        ensures session { self.new.session ≡ self.old.session }
+        ensures refused { MeansRefusal result question.now self.new.replica.tree self.new.message }
+        ensures kept { KeepsReplica result self.old self.new }
         ensures status { (result ≡ 0) ⊎ (result ≡ 1) ⊎ (result ≡ 2) ⊎ (result ≡ 6) }
     {
         match answer(alloc, &mut self.replica, question) {
@@ -139,25 +132,7 @@ impl ByteReplica {
                 self.message = reply;
                 DONE
             }
-            Err(AnswerError::Memory) => MEMORY,
-            Err(AnswerError::Malformed(_)) => self.refuse(alloc, MALFORMED),
-            Err(AnswerError::OtherSettings) => self.refuse(alloc, OTHER_SETTINGS),
-        }
-    }
-
-    /// Keeps the refusal as the message, and returns this status; or `MEMORY`, and the message is as before.
-    fn refuse(&mut self, alloc: Global, status: u32) -> u32
-        ensures refusal { result ≢ 1 → (result ≡ status) × (self.new.message.items ≡ front Refusal) }
-        ensures memory { result ≡ 1 → status ≢ 1 → self.new.message ≡ self.old.message }
-        ensures rest { (self.new.replica ≡ self.old.replica) × (self.new.session ≡ self.old.session) }
-        ensures status { (result ≡ 1) ⊎ (result ≡ status) }
-    {
-        match refusal(alloc) {
-            Ok(message) => {
-                self.message = message;
-                status
-            }
-            Err(_) => MEMORY,
+            Err(error) => fail(alloc, &mut self.message, error),
         }
     }
 

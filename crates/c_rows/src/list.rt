@@ -4,28 +4,11 @@
 //! is eight bytes, the lowest first.
 ghost use Rattle.std.specs.Prelude.{◌≡◌, ◌++◌, OnOk, IfOk};
 ghost use Rattle.c_rows.specs.Values.{by_bytes, by_bytes_all};
-ghost use Rattle.c_values.specs.Lists.{number_bytes, sized_bytes, sized_row, row_list};
+ghost use Rattle.c_values.specs.Lists.{sized_row, row_list};
 
 use crate::value::ByteValue;
+use c_values::{ROWS, put_number, put_text};
 use std::alloc::{AllocError, Global};
-
-/// The mark of a list of rows.
-pub const ROWS: [u8; 4] = *b"MSTr";
-
-/// Writes a number.
-pub fn put_number(number: usize, out: &mut Vec<u8>) -> Result<(), AllocError>
-    ensures { OnOk result (out.new.items ≡ out.old.items ++ number_bytes number) }
-{
-    out.extend_from_slice(&(number as u64).to_le_bytes())
-}
-
-/// Writes a string.
-pub fn put_text(text: &[u8], out: &mut Vec<u8>) -> Result<(), AllocError>
-    ensures { OnOk result (out.new.items ≡ out.old.items ++ sized_bytes text.now) }
-{
-    put_number(text.len(), out)?;
-    out.extend_from_slice(text)
-}
 
 /// Writes a row.
 fn put_row(row: &(Vec<u8>, ByteValue), out: &mut Vec<u8>) -> Result<(), AllocError>

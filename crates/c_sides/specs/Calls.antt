@@ -1,11 +1,12 @@
 -- What the calls do to a tree, to the catch-up that it is in, and to the message and the list that are kept.
-use Rattle.std.specs.Prelude.{◌≡◌, ◌≢◌, ℕ, Bool, List, [], length, replicate, Option, None, Some, MatchOption, ⊤}
+use Rattle.std.specs.Prelude.{◌≡◌, ◌≢◌, ◌⊎◌, ℕ, Bool, List, [], length, replicate, Option, None, Some, MatchOption, ⊤}
 use Rattle.std.specs.Global.{Vec}
 use Rattle.c_rows.specs.Values.{by_bytes_all, byte_laws, key_encoding, value_encoding}
 use Rattle.c_values.specs.Keys.{bytes_cmp, key_items, key_cmp, pairs_of}
 use Rattle.c_values.specs.Lists.{row_list}
+use Rattle.c_values.specs.Trees.{IsDel, IsSetTo}
 use Rattle.c_rows.specs.declared.value.ByteValue.{ByteValue}
-use Rattle.key_order.specs.Map.{IsMap, del, get, has_key, set}
+use Rattle.key_order.specs.Map.{IsMap, get}
 use Rattle.merkle_digest.specs.SipHash.{siphash128}
 use Rattle.merkle_search_tree.specs.Loading.{row_count}
 use Rattle.merkle_tree_theory.specs.Hashed.{hashed_tree}
@@ -15,7 +16,7 @@ use Rattle.merkle_tree_theory.specs.declared.page_format.PageFormat.{PageFormat}
 use Rattle.merkle_wire.specs.Underway.{nothing, Underway}
 use Rattle.merkle_wire.specs.Next.{IsNext, IsStopped}
 use Rattle.merkle_wire.specs.Questions.{AsksForRoot, question_bytes}
-use Rattle.merkle_wire.specs.Replies.{AsksWithOthers, IsAnsweredWithin, IsAnsweredBy}
+use Rattle.merkle_wire.specs.Replies.{IsAnsweredWithin, IsAnsweredBy}
 use Rattle.merkle_wire.specs.declared.catching_up.Next.{Next}
 use Rattle.merkle_wire.specs.declared.catching_up.Next.TheVariants.{Ask, Came}
 use Rattle.merkle_wire.specs.declared.question.Question.{Question}
@@ -25,7 +26,7 @@ use Rattle.c_sides.specs.Needs.{AreNeeds}
 use Rattle.c_sides.specs.declared.byte_sync.ByteSync.{ByteSync}
 use Rattle.c_sides.specs.declared.byte_sync.Taken.{Taken}
 use Rattle.c_sides.specs.declared.byte_sync.Taken.TheVariants.{Asks, Kept, Lost, Failed}
-use Rattle.c_rows.specs.Ends.{IsEarly, early_status}
+use Rattle.c_rows.specs.Ends.{IsEarly, SendsNothing, early_status}
 use Rattle.merkle_wire.specs.ItsRows.{ForRowsOf, digests_of}
 
 -- the empty tree with these settings, no catch-up, no message and no list
@@ -52,25 +53,29 @@ SameMessage old new = new.message ≡ old.message
 abbrev pub SameList : ByteSync → ByteSync → Type 0
 SameList old new = new.list ≡ old.list
 
+-- a call that answers leaves the map, the settings and the catch-up, and the message too where none is to be sent
+pub record KeepsSide (status : ℕ) (old new : ByteSync) : Type 0 where
+  pub tree : SameTree old new
+  pub session : SameSession old new
+  pub message : SendsNothing status → SameMessage old new
+
+-- it leaves these, and the list too where no rows are needed
+pub record KeepsOrNeeds (status : ℕ) (old new : ByteSync) : Type 0 where
+  pub side : KeepsSide status old new
+  pub list : status ≢ 8 → SameList old new
+
 -- the catch-up, the message and the list stay
 abbrev pub SameTalk : ByteSync → ByteSync → Type 0
 SameTalk old new = SameSession old new × SameMessage old new × SameList old new
 
--- nothing but the message changes
-abbrev pub OnlyMessage : ByteSync → ByteSync → Type 0
-OnlyMessage old new = (new.tree ≡ old.tree) × SameSession old new × SameList old new
-
 -- the map has the key with the digest of the value, and the rest stays
 pub record IsPairSet (key value : List ℕ) (old new : ByteSync) : Type 0 where
-  pub pairs : pairs_of new.tree ≡ set bytes_cmp (pairs_of old.tree) key (siphash128 old.tree.hasher value)
-  pub settings : SameSettings old.tree new.tree
+  pub tree : IsSetTo key (siphash128 old.tree.hasher value) old.tree new.tree
   pub talk : SameTalk old new
 
 -- the map no longer has the key, whether it had it was answered, and the rest stays
 pub record IsPairDel (key : List ℕ) (found : Bool) (old new : ByteSync) : Type 0 where
-  pub pairs : pairs_of new.tree ≡ del bytes_cmp (pairs_of old.tree) key
-  pub answer : found ≡ has_key bytes_cmp (pairs_of old.tree) key
-  pub settings : SameSettings old.tree new.tree
+  pub tree : IsDel key found old.tree new.tree
   pub talk : SameTalk old new
 
 -- the key has this digest, or none
@@ -126,10 +131,6 @@ pub record IsAnsweredWith (question list : List ℕ) (new : ByteSync) : Type 0 w
 -- the reply ends with the entry that brings it to this many bytes, or has all entries
 abbrev pub EndsBy : ℕ → List ℕ → ByteSync → Type 0
 EndsBy most question new = IsAnsweredWithin key_encoding value_encoding most question new.message
-
--- the question is for the root, with settings that are not those of the tree
-abbrev pub IsOfOthers : List ℕ → ByteSync → Type 0
-IsOfOthers question new = AsksWithOthers byte_laws 16 key_encoding new.tree question
 
 -- a catch-up began that asks for the root with the settings of the tree, and the message asks that; the tree and the list stay
 pub record HasBegun (old new : ByteSync) : Type 0 where
@@ -187,6 +188,11 @@ pub record IsStoppedBy (reply : List ℕ) (status : ℕ) (old : ByteSync) : Type
   pub error : SessionError
   pub is : status ≡ early_status error
   pub stopped : ForRowsOf byte_laws (digests_of old.tree) (λ local. IsStopped byte_laws 16 key_encoding value_encoding (λ _. ⊤) (λ _. ⊤) local before reply error)
+
+-- a catch-up was under way and is over, by this status; and where that isn't for memory, it could not go on with the reply
+pub record IsGivenUp (reply : List ℕ) (status : ℕ) (old new : ByteSync) : Type 0 where
+  pub dropped : IsDropped old new
+  pub stopped : (status ≡ 2) ⊎ (status ≡ 7) → IsStoppedBy reply status old
 
 -- what is done with a reply, by what comes after it
 abbrev pub IsTaken : List ℕ → Taken → ByteSync → ByteSync → Type 0

@@ -1,5 +1,5 @@
 //! What a handle holds: a tree of the digests of byte strings, the catch-up that it is in, a message and a list.
-ghost use Rattle.std.specs.Prelude.{◌≡◌, ◌≢◌, ◌⊎◌, OnOk, OnErr, IfOk, false};
+ghost use Rattle.std.specs.Prelude.{◌≡◌, ◌⊎◌, OnOk, OnErr, IfOk, false};
 ghost use Rattle.std.specs.Int.NonZero.{non_zero_u8_get};
 ghost use Rattle.c_rows.specs.Values.{key_encoding};
 ghost use Rattle.c_values.specs.Keys.{bytes_cmp, key_items, pairs_of};
@@ -7,28 +7,25 @@ ghost use Rattle.key_order.specs.Map.{get};
 ghost use Rattle.merkle_search_tree.specs.Loading.{row_count};
 ghost use Rattle.merkle_tree_theory.specs.State.{map_of};
 ghost use Rattle.merkle_tree_theory.specs.Stream.{page_digest};
-ghost use Rattle.merkle_wire.specs.Faults.{IsUnread, AreOtherSettings as IsErrorOfOthers};
-ghost use Rattle.merkle_wire.specs.Messages.{front};
 ghost use Rattle.merkle_wire.specs.Questions.{question_bytes};
-ghost use Rattle.merkle_wire.specs.declared.message.Kind.TheVariants.{Refusal};
-ghost use Rattle.c_sides.specs.Calls.{CountsFor, EndsBy, HasBegun, IsAnswered, IsAnsweredWith, IsPairDel, IsFresh, IsKeptOf, IsNeeded, IsOfOthers, IsPairSet};
-ghost use Rattle.c_rows.specs.Ends.{IsNoQuestion};
-ghost use Rattle.c_sides.specs.Calls.{OnlyHashes, OnlyMessage, SameList, SameSession, SameTree, TakesReply};
+ghost use Rattle.c_rows.specs.Ends.{MeansRefusal};
+ghost use Rattle.c_sides.specs.Calls.{CountsFor, EndsBy, HasBegun, IsAnswered, IsAnsweredWith, IsPairDel, IsFresh, IsKeptOf, IsNeeded, IsPairSet};
+ghost use Rattle.c_sides.specs.Calls.{KeepsOrNeeds, KeepsSide, OnlyHashes, SameList, TakesReply};
 
 use crate::handed::{Handed, HandedError};
 use crate::needs::needs_of;
 use crate::status::NEEDS_ROWS;
 use crate::unread::Unread;
-use c_rows::status::{OTHER_SETTINGS, status_of};
-use c_rows::{ByteValue, ListError, encode};
+use c_rows::status::status_of;
+use c_rows::{ByteValue, encode, fail, refuse};
+use c_values::ListError;
 use c_values::status::{ARGUMENT, DONE, MALFORMED, MEMORY};
 use merkle_bytes::ReadError;
 use merkle_digest::SipHasher;
 use merkle_search_tree::MerkleSearchTree;
 use merkle_search_tree::builder::{Builder, PageFormat};
 use merkle_wire::{
-    AnswerError, CatchingUp, KeptError, MOST_BYTES, Next, Question, TakeError, answer_by,
-    decode_question, refusal,
+    CatchingUp, KeptError, MOST_BYTES, Next, Question, TakeError, answer_by, decode_question,
 };
 use std::alloc::{AllocError, Global};
 use std::num::NonZeroU8;
@@ -213,19 +210,16 @@ impl ByteSync {
     pub fn answer(&mut self, alloc: Global, question: &[u8]) -> u32
         ensures done { result ≡ 0 → IsAnswered question.now self.old self.new }
         ensures needs { result ≡ 8 → IsNeeded question.now self.new }
-        ensures malformed { result ≡ 2 → IsNoQuestion question.now }
-        ensures others { result ≡ 6 → IsOfOthers question.now self.new }
-        ensures refusal { (result ≡ 2) ⊎ (result ≡ 6) → self.new.message.items ≡ front Refusal }
-        ensures message { (result ≡ 1) ⊎ (result ≡ 8) → self.new.message ≡ self.old.message }
-        ensures list { result ≢ 8 → SameList self.old self.new }
-        ensures kept { SameTree self.old self.new }
-        ensures session { SameSession self.old self.new }
+        ensures refused { MeansRefusal result question.now self.new.tree self.new.message }
+        ensures kept { KeepsOrNeeds result self.old self.new }
         ensures status { (result ≡ 0) ⊎ (result ≡ 1) ⊎ (result ≡ 2) ⊎ (result ≡ 6) ⊎ (result ≡ 8) }
     {
         let asked = match decode_question::<Vec<u8>>(alloc, question) {
             Ok(asked) => asked,
             Err(ReadError::Memory) => return MEMORY,
-            Err(ReadError::Unexpected { .. }) => return self.refuse(alloc, MALFORMED),
+            Err(ReadError::Unexpected { .. }) => {
+                return refuse(alloc, &mut self.message, MALFORMED);
+            }
         };
         match needs_of(alloc, &asked) {
             Ok(Some(list)) => {
@@ -241,13 +235,9 @@ impl ByteSync {
     fn answer_alone(&mut self, alloc: Global, asked: &Question<Vec<u8>>, question: &[u8]) -> u32
         requires asks { question.now ≡ question_bytes key_encoding asked.now }
         ensures done { result ≡ 0 → IsAnswered question.now self.old self.new }
-        ensures malformed { result ≡ 2 → IsNoQuestion question.now }
-        ensures others { result ≡ 6 → IsOfOthers question.now self.new }
-        ensures refusal { (result ≡ 2) ⊎ (result ≡ 6) → self.new.message.items ≡ front Refusal }
-        ensures message { result ≡ 1 → self.new.message ≡ self.old.message }
+        ensures refused { MeansRefusal result question.now self.new.tree self.new.message }
+        ensures kept { KeepsSide result self.old self.new }
         ensures list { SameList self.old self.new }
-        ensures kept { SameTree self.old self.new }
-        ensures session { SameSession self.old self.new }
         ensures status { (result ≡ 0) ⊎ (result ≡ 1) ⊎ (result ≡ 2) ⊎ (result ≡ 6) }
     {
         let Ok(count) = self.count_for(asked) else {
@@ -259,7 +249,7 @@ impl ByteSync {
                 self.message = reply;
                 DONE
             }
-            Err(KeptError::Answer(error)) => self.fail(alloc, error),
+            Err(KeptError::Answer(error)) => fail(alloc, &mut self.message, error),
             Err(KeptError::Kept(_)) => MEMORY,
         }
     }
@@ -289,13 +279,9 @@ impl ByteSync {
     ) -> u32
         ensures done { result ≡ 0 → IsAnsweredWith question.now rows.now self.new }
         ensures within { result ≡ 0 → EndsBy most_bytes question.now self.new }
-        ensures malformed { result ≡ 2 → IsNoQuestion question.now }
-        ensures others { result ≡ 6 → IsOfOthers question.now self.new }
-        ensures refusal { (result ≡ 2) ⊎ (result ≡ 6) → self.new.message.items ≡ front Refusal }
-        ensures message { (result ≡ 1) ⊎ (result ≡ 4) ⊎ (result ≡ 8) → self.new.message ≡ self.old.message }
+        ensures refused { MeansRefusal result question.now self.new.tree self.new.message }
+        ensures kept { KeepsSide result self.old self.new }
         ensures list { SameList self.old self.new }
-        ensures kept { SameTree self.old self.new }
-        ensures session { SameSession self.old self.new }
         ensures status { (result ≡ 0) ⊎ (result ≡ 1) ⊎ (result ≡ 2) ⊎ (result ≡ 4) ⊎ (result ≡ 6) ⊎ (result ≡ 8) }
     {
         let handed = match Handed::of_list(alloc, rows, is_all) {
@@ -308,40 +294,8 @@ impl ByteSync {
                 self.message = reply;
                 DONE
             }
-            Err(KeptError::Answer(error)) => self.fail(alloc, error),
+            Err(KeptError::Answer(error)) => fail(alloc, &mut self.message, error),
             Err(KeptError::Kept(error)) => handed_status(error),
-        }
-    }
-
-    /// Keeps the refusal of a message that has no reply, unless out of memory, and returns the status.
-    fn fail(&mut self, alloc: Global, error: AnswerError) -> u32
-        ensures malformed { result ≡ 2 → IsUnread error }
-        ensures others { result ≡ 6 → IsErrorOfOthers error }
-        ensures refusal { (result ≡ 2) ⊎ (result ≡ 6) → self.new.message.items ≡ front Refusal }
-        ensures memory { result ≡ 1 → self.new.message ≡ self.old.message }
-        ensures rest { OnlyMessage self.old self.new }
-        ensures status { (result ≡ 1) ⊎ (result ≡ 2) ⊎ (result ≡ 6) }
-    {
-        match error {
-            AnswerError::Memory => MEMORY,
-            AnswerError::Malformed(_) => self.refuse(alloc, MALFORMED),
-            AnswerError::OtherSettings => self.refuse(alloc, OTHER_SETTINGS),
-        }
-    }
-
-    /// Keeps the refusal as the message, and returns this status; or `MEMORY`, and the message is as before.
-    fn refuse(&mut self, alloc: Global, status: u32) -> u32
-        ensures refusal { result ≢ 1 → (result ≡ status) × (self.new.message.items ≡ front Refusal) }
-        ensures memory { result ≡ 1 → status ≢ 1 → self.new.message ≡ self.old.message }
-        ensures rest { OnlyMessage self.old self.new }
-        ensures status { (result ≡ 1) ⊎ (result ≡ status) }
-    {
-        match refusal(alloc) {
-            Ok(message) => {
-                self.message = message;
-                status
-            }
-            Err(_) => MEMORY,
         }
     }
 }

@@ -6,7 +6,8 @@ ghost use Rattle.c_values.specs.Lists.{row_list};
 ghost use Rattle.key_order.specs.Map.{IsMap};
 ghost use Rattle.c_sides.specs.declared.handed.HandedError.TheVariants.{Memory};
 
-use c_rows::{ByteValue, ListError, decode_rows};
+use c_rows::{ByteValue, decode_rows};
+use c_values::ListError;
 use merkle_bytes::Encode;
 use merkle_digest::SipHasher;
 use merkle_replica::Replica;

@@ -5,7 +5,7 @@ ghost use Rattle.std.specs.Prelude.{◌≡◌, ◌++◌, map, OnOk, IfOk};
 ghost use Rattle.c_values.specs.Lists.{sized_row, row_list};
 ghost use Rattle.c_sides.specs.Needs.{NeedsWhat, end_mark, first_key, gap_need, key_need};
 
-use c_rows::{ROWS, put_number, put_text};
+use c_values::{ROWS, put_number, put_text};
 use merkle_wire::{OwnedGap, Question, Wanted};
 use std::alloc::{AllocError, Global};
 

@@ -1,11 +1,12 @@
 -- What the calls do to the tree of a handle.
-use Rattle.std.specs.Prelude.{◌≡◌, ◌≢◌, ◌⊎◌, ℕ, ◌<◌, List, Option, None}
+use Rattle.std.specs.Prelude.{◌≡◌, ℕ, List, Option}
 use Rattle.key_order.specs.Map.{get}
+use Rattle.merkle_tree_theory.specs.Hashed.{IsHashed}
 use Rattle.merkle_tree_theory.specs.State.{IsNew}
 use Rattle.merkle_tree_theory.specs.declared.page_format.PageFormat.{PageFormat}
-use Rattle.c_trees.specs.Trees.{ByteState}
+use Rattle.c_trees.specs.Trees.{ByteState, SamePairs}
 use Rattle.c_values.specs.Handles.{Changes, Has}
-use Rattle.c_values.specs.Keys.{bytes_cmp, pairs_of}
+use Rattle.c_values.specs.Keys.{bytes_cmp, key_items, pairs_of}
 use Rattle.c_values.specs.Output.{IsOutput, IsShort}
 use Rattle.c_trees.specs.declared.byte_tree.ByteTree.{ByteTree}
 
@@ -16,6 +17,11 @@ HasTree tree P = Has tree (λ s. P s.tree)
 -- the handle had a tree and has one, and they are related
 abbrev pub ChangesTree : Option ByteTree → Option ByteTree → (ByteState → ByteState → Type 0) → Type 0
 ChangesTree old new R = Changes old new (λ s t. R s.tree t.tree)
+
+-- the handle had a tree and has it with the same pairs, with all digests filled in
+pub record OnlyHashes (old new : Option ByteTree) : Type 0 where
+  pub kept : ChangesTree old new SamePairs
+  pub hashed : ChangesTree old new (IsHashed key_items)
 
 -- bytes of which this holds, as many as needed, are in front of out, and after them it is as before
 abbrev pub IsOutputWhere : List ℕ → List ℕ → ℕ → (List ℕ → Type 0) → Type 0
@@ -36,10 +42,6 @@ IsShortOf tree Tells out needed = HasTree tree (λ s. IsShortWhere out needed (T
 -- it has the empty tree with this key of SipHash, way of feeding keys, level base and page format
 abbrev pub HasNewTree : Option ByteTree → List ℕ → ℕ → ℕ → PageFormat → Type 0
 HasNewTree tree key feed base format = HasTree tree (IsNew (record { key = key; feed = feed }) base format)
-
--- no tree can be made: the handle has one, the base is 0, the format isn't 1 or 2, or the way of feeding keys is above 2
-abbrev pub MakesNoTree : Option ByteTree → ℕ → ℕ → ℕ → Type 0
-MakesNoTree tree base format feed = (tree ≢ None) ⊎ (base ≡ 0) ⊎ ((format ≢ 1) × (format ≢ 2)) ⊎ (2 < feed)
 
 -- it has a tree, which has this digest at the key, or none
 abbrev pub HasTreeDigest : Option ByteTree → List ℕ → Option (List ℕ) → Type 0

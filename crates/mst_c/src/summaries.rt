@@ -1,11 +1,9 @@
 //! Calls that answer what a tree holds as digests, and compare two such answers.
 ghost use Rattle.std.specs.Prelude.{◌≡◌, ◌≢◌, ◌↔◌, ◌⊎◌, None, Err};
-ghost use Rattle.merkle_tree_theory.specs.Hashed.{IsHashed};
 ghost use Rattle.merkle_tree_theory.specs.Stream.{page_digest};
-ghost use Rattle.mst_c.specs.Handles.{ChangesTree, HasTree, IsOutputWhere, IsOutputOf, IsShortWhere, IsShortOf};
+ghost use Rattle.mst_c.specs.Handles.{HasTree, IsOutputWhere, IsOutputOf, IsShortWhere, IsShortOf, OnlyHashes};
 ghost use Rattle.c_trees.specs.Lists.{AreNotBothRanges, IsDiffOf, TellsDigests, TellsRanges};
 ghost use Rattle.c_trees.specs.Pages.{TellsPageList};
-ghost use Rattle.c_trees.specs.Trees.{SamePairs};
 ghost use Rattle.c_values.specs.Keys.{key_items};
 
 use crate::handle::{MstTree, put_back, take_out};
@@ -24,8 +22,7 @@ pub extern "C" fn mst_proved_tree_root_hash(
     digest: &mut MstBytes16,
 ) -> u32
     ensures digest { result ≡ 0 → HasTree handle.old.tree (λ s. digest.new.bytes ≡ page_digest s.format key_items s.root) }
-    ensures kept { result ≡ 0 → ChangesTree handle.old.tree handle.new.tree SamePairs }
-    ensures hashed { result ≡ 0 → ChangesTree handle.old.tree handle.new.tree (IsHashed key_items) }
+    ensures hashed { result ≡ 0 → OnlyHashes handle.old.tree handle.new.tree }
     ensures unchanged { result ≢ 0 → handle.new.tree ≡ handle.old.tree }
     ensures refused { result ≢ 0 → digest.new.bytes ≡ digest.old.bytes }
     ensures argument { (result ≡ 4) ↔ (handle.old.tree ≡ None) }
@@ -52,8 +49,7 @@ pub extern "C" fn mst_proved_tree_page_ranges(
 ) -> u32
     ensures done { result ≡ 0 → IsOutputOf handle.new.tree TellsRanges out.old out.new needed.new }
     ensures short { result ≡ 3 → IsShortOf handle.new.tree TellsRanges out.old needed.new }
-    ensures kept { result ≢ 4 → ChangesTree handle.old.tree handle.new.tree SamePairs }
-    ensures hashed { result ≢ 4 → ChangesTree handle.old.tree handle.new.tree (IsHashed key_items) }
+    ensures hashed { result ≢ 4 → OnlyHashes handle.old.tree handle.new.tree }
     ensures no_tree { result ≡ 4 → handle.new.tree ≡ None }
     ensures unchanged { result ≢ 0 → out.new ≡ out.old }
     ensures refused { result ≢ 0 → result ≢ 3 → needed.new ≡ needed.old }

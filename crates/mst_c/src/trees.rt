@@ -1,8 +1,9 @@
 //! Calls that make trees, copy them, let them go, count their keys and look one up.
-ghost use Rattle.std.specs.Prelude.{◌≡◌, ◌≢◌, ◌≤◌, ◌↔◌, ◌⊎◌, true, None, Some, Err};
+ghost use Rattle.std.specs.Prelude.{◌≡◌, ◌≢◌, ◌<◌, ◌≤◌, ◌↔◌, ◌⊎◌, true, None, Some, Err};
 ghost use Rattle.merkle_tree_theory.specs.declared.page_format.PageFormat.TheVariants.{V1, V2};
 ghost use Rattle.merkle_search_tree.specs.Loading.{row_count};
-ghost use Rattle.mst_c.specs.Handles.{ChangesTree, HasTreeDigest, HasNewTree, HasTree, MakesNoTree};
+ghost use Rattle.mst_c.specs.Handles.{ChangesTree, HasTreeDigest, HasNewTree, HasTree};
+ghost use Rattle.c_values.specs.Handles.{CanMake, CannotMake};
 ghost use Rattle.c_trees.specs.Trees.{IsCopied};
 ghost use Rattle.c_values.specs.Keys.{pairs_of};
 
@@ -28,12 +29,10 @@ pub extern "C" fn mst_proved_tree_new(
 ) -> u32
     ensures v1 { result ≡ 0 → page_format ≡ 1 → HasNewTree handle.new.tree key.now.bytes key_feed level_base V1 }
     ensures v2 { result ≡ 0 → page_format ≡ 2 → HasNewTree handle.new.tree key.now.bytes key_feed level_base V2 }
-    ensures empty { result ≢ 4 → handle.old.tree ≡ None }
-    ensures unchanged { result ≢ 0 → handle.new.tree ≡ handle.old.tree }
-    ensures base { result ≢ 4 → level_base ≢ 0 }
-    ensures format { result ≢ 4 → (page_format ≡ 1) ⊎ (page_format ≡ 2) }
+    ensures right { result ≢ 4 → CanMake handle.old.tree level_base page_format }
     ensures feed { result ≢ 4 → key_feed ≤ 2 }
-    ensures argument { result ≡ 4 → MakesNoTree handle.old.tree level_base page_format key_feed }
+    ensures argument { result ≡ 4 → CannotMake handle.old.tree level_base page_format ⊎ (2 < key_feed) }
+    ensures unchanged { result ≢ 0 → handle.new.tree ≡ handle.old.tree }
     ensures status { (result ≡ 0) ⊎ (result ≡ 1) ⊎ (result ≡ 4) }
 {
     let Some(base) = NonZeroU8::new(level_base) else {

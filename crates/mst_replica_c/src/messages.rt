@@ -1,11 +1,9 @@
 //! Calls by which two replicas talk: the answering side, and the asking side.
 ghost use Rattle.std.specs.Prelude.{◌≡◌, ◌≢◌, ◌↔◌, ◌⊎◌, None, length};
-ghost use Rattle.merkle_wire.specs.Messages.{front};
-ghost use Rattle.merkle_wire.specs.declared.message.Kind.TheVariants.{Refusal};
-ghost use Rattle.c_replicas.specs.Calls.{AsksOn, HasBegun, JoinsWhatCame, IsAnswered, IsCutOff, IsDropped, IsIdle, IsOfOthers, IsStoppedBy, SameMessage, SameRows, SameSession};
-ghost use Rattle.c_rows.specs.Ends.{IsNoQuestion};
-ghost use Rattle.c_values.specs.Output.{IsOutput, IsShort};
-ghost use Rattle.c_values.specs.Handles.{Has, Changes};
+ghost use Rattle.c_replicas.specs.Calls.{AsksOn, HasBegun, IsAnswered, IsCutOff, IsGivenUp, IsIdle, JoinsWhatCame, KeepsReplica};
+ghost use Rattle.c_rows.specs.Ends.{MeansRefusal, Sends, SendsNothing};
+ghost use Rattle.c_values.specs.Output.{IsOutput, IsShort, TellsNumber};
+ghost use Rattle.c_values.specs.Handles.{Has, Changes, RefusesNone, RefusesWhere};
 
 use crate::handle::{MstReplica, put_back, take_out};
 use c_replicas::byte_replica::Taken;
@@ -26,16 +24,10 @@ pub extern "C" fn mst_proved_replica_answer(
     len: &mut usize,
 ) -> u32
     ensures done { result ≡ 0 → Changes handle.old.held handle.new.held (IsAnswered question.now) }
-    ensures malformed { result ≡ 2 → IsNoQuestion question.now }
-    ensures others { result ≡ 6 → Has handle.new.held (IsOfOthers question.now) }
-    ensures refusal { (result ≡ 2) ⊎ (result ≡ 6) → Has handle.new.held (λ h. h.message.items ≡ front Refusal) }
-    ensures len { result ≢ 1 → result ≢ 4 → Has handle.new.held (λ h. len.new ≡ length h.message.items) }
-    ensures kept { result ≢ 4 → Changes handle.old.held handle.new.held SameRows }
-    ensures session { result ≢ 4 → Changes handle.old.held handle.new.held SameSession }
-    ensures memory { result ≡ 1 → Changes handle.old.held handle.new.held SameMessage }
-    ensures refused { (result ≡ 1) ⊎ (result ≡ 4) → len.new ≡ len.old }
-    ensures unchanged { result ≡ 4 → handle.new.held ≡ handle.old.held }
-    ensures argument { (result ≡ 4) ↔ (handle.old.held ≡ None) }
+    ensures refused { result ≢ 4 → Has handle.new.held (λ h. MeansRefusal result question.now h.replica.tree h.message) }
+    ensures kept { result ≢ 4 → Changes handle.old.held handle.new.held (KeepsReplica result) }
+    ensures len { TellsNumber (Sends result) (SendsNothing result) handle.new.held (λ h. length h.message.items) len.old len.new }
+    ensures none { RefusesNone result handle.old.held handle.new.held }
     ensures status { (result ≡ 0) ⊎ (result ≡ 1) ⊎ (result ≡ 2) ⊎ (result ≡ 4) ⊎ (result ≡ 6) }
 {
     let Some(mut held) = take_out(alloc, handle) else {
@@ -122,19 +114,13 @@ pub extern "C" fn mst_proved_replica_take(
     len: &mut usize,
     joined: &mut usize,
 ) -> u32
-    ensures asks { result ≡ 0 → len.new ≢ 0 → Changes handle.old.held handle.new.held (AsksOn reply.now) }
-    ensures none_yet { result ≡ 0 → len.new ≢ 0 → joined.new ≡ 0 }
+    ensures asks { result ≡ 0 → len.new ≢ 0 → Changes handle.old.held handle.new.held (AsksOn reply.now joined.new) }
     ensures joined { result ≡ 0 → len.new ≡ 0 → Changes handle.old.held handle.new.held (JoinsWhatCame reply.now joined.new) }
-    ensures len { result ≡ 0 → Has handle.new.held (λ h. len.new ≡ length h.message.items) }
     ensures cut { result ≡ 1 → Changes handle.old.held handle.new.held (IsCutOff reply.now joined.new) }
-    ensures dropped { (result ≡ 2) ⊎ (result ≡ 7) → Changes handle.old.held handle.new.held IsDropped }
-    ensures stopped { (result ≡ 2) ⊎ (result ≡ 7) → Has handle.old.held (IsStoppedBy reply.now result) }
-    ensures idle { result ≡ 5 → Has handle.old.held IsIdle }
-    ensures under_way { Has handle.old.held IsIdle → result ≡ 5 }
-    ensures unchanged { (result ≡ 4) ⊎ (result ≡ 5) → handle.new.held ≡ handle.old.held }
-    ensures refused { result ≢ 0 → len.new ≡ len.old }
     ensures not_joined { result ≢ 0 → result ≢ 1 → joined.new ≡ joined.old }
-    ensures argument { (result ≡ 4) ↔ (handle.old.held ≡ None) }
+    ensures len { TellsNumber (result ≡ 0) (result ≢ 0) handle.new.held (λ h. length h.message.items) len.old len.new }
+    ensures ended { (result ≡ 2) ⊎ (result ≡ 7) → Changes handle.old.held handle.new.held (IsGivenUp reply.now result) }
+    ensures refused { RefusesWhere IsIdle result handle.old.held handle.new.held }
     ensures status { (result ≡ 0) ⊎ (result ≡ 1) ⊎ (result ≡ 2) ⊎ (result ≡ 4) ⊎ (result ≡ 5) ⊎ (result ≡ 7) }
 {
     let Some(mut held) = take_out(alloc, handle) else {

@@ -3,7 +3,7 @@ ghost use Rattle.std.specs.Prelude.{◌≡◌, ◌≢◌, ◌↔◌, ◌⊎◌, 
 ghost use Rattle.merkle_tree_theory.specs.declared.page_format.PageFormat.TheVariants.{V1, V2};
 ghost use Rattle.c_replicas.specs.Calls.{HasRootDigest, HasRows, HasValue, IsFresh, IsPut, OnlyHashes};
 ghost use Rattle.c_values.specs.Output.{IsOutput, IsShort};
-ghost use Rattle.c_values.specs.Handles.{Has, Changes};
+ghost use Rattle.c_values.specs.Handles.{CanMake, CannotMake, Changes, Has};
 ghost use Rattle.c_replicas.specs.Values.{value_at};
 
 use crate::handle::{MstReplica, put_back, take_out};
@@ -26,11 +26,9 @@ pub extern "C" fn mst_proved_replica_new(
 ) -> u32
     ensures v1 { result ≡ 0 → page_format ≡ 1 → Has handle.new.held (IsFresh key.now.bytes level_base V1) }
     ensures v2 { result ≡ 0 → page_format ≡ 2 → Has handle.new.held (IsFresh key.now.bytes level_base V2) }
-    ensures empty { result ≢ 4 → handle.old.held ≡ None }
+    ensures right { result ≢ 4 → CanMake handle.old.held level_base page_format }
+    ensures argument { result ≡ 4 → CannotMake handle.old.held level_base page_format }
     ensures unchanged { result ≢ 0 → handle.new.held ≡ handle.old.held }
-    ensures base { result ≢ 4 → level_base ≢ 0 }
-    ensures format { result ≢ 4 → (page_format ≡ 1) ⊎ (page_format ≡ 2) }
-    ensures argument { result ≡ 4 → (handle.old.held ≢ None) ⊎ (level_base ≡ 0) ⊎ ((page_format ≢ 1) × (page_format ≢ 2)) }
     ensures status { (result ≡ 0) ⊎ (result ≡ 1) ⊎ (result ≡ 4) }
 {
     let Some(base) = NonZeroU8::new(level_base) else {

@@ -1,12 +1,10 @@
 //! Calls by which two sides talk: the asking side, and the answering side.
 ghost use Rattle.std.specs.Prelude.{◌≡◌, ◌≢◌, ◌↔◌, ◌⊎◌, None, length};
-ghost use Rattle.merkle_wire.specs.Messages.{front};
-ghost use Rattle.merkle_wire.specs.declared.message.Kind.TheVariants.{Refusal};
-ghost use Rattle.c_sides.specs.Calls.{AsksOn, EndsBy, HasBegun, HasBrought, IsAnswered, IsAnsweredWith, IsDropped, IsIdle, IsNeeded};
-ghost use Rattle.c_rows.specs.Ends.{IsNoQuestion};
-ghost use Rattle.c_sides.specs.Calls.{IsOfOthers, IsStoppedBy, SameList, SameMessage, SameSession, SameTree};
-ghost use Rattle.c_values.specs.Output.{IsOutput, IsShort};
-ghost use Rattle.c_values.specs.Handles.{Has, Changes};
+ghost use Rattle.c_sides.specs.Calls.{AsksOn, EndsBy, HasBegun, HasBrought, IsAnswered, IsAnsweredWith, IsGivenUp, IsIdle, IsNeeded};
+ghost use Rattle.c_sides.specs.Calls.{KeepsOrNeeds, KeepsSide, SameList};
+ghost use Rattle.c_rows.specs.Ends.{MeansRefusal, Sends, SendsNothing};
+ghost use Rattle.c_values.specs.Output.{IsOutput, IsShort, TellsNumber};
+ghost use Rattle.c_values.specs.Handles.{Has, Changes, RefusesNone, RefusesWhere};
 
 use crate::handle::{MstSync, put_back, take_out};
 use c_sides::byte_sync::Taken;
@@ -110,15 +108,10 @@ pub extern "C" fn mst_proved_sync_take(
     ensures asks { result ≡ 0 → len.new ≢ 0 → Changes handle.old.held handle.new.held (AsksOn reply.now) }
     ensures none_yet { result ≡ 0 → len.new ≢ 0 → list_len.new ≡ 0 }
     ensures brought { result ≡ 0 → len.new ≡ 0 → Changes handle.old.held handle.new.held (HasBrought reply.now) }
-    ensures len { result ≡ 0 → Has handle.new.held (λ h. len.new ≡ length h.message.items) }
-    ensures list_len { result ≡ 0 → len.new ≡ 0 → Has handle.new.held (λ h. list_len.new ≡ length h.list.items) }
-    ensures dropped { (result ≡ 1) ⊎ (result ≡ 2) ⊎ (result ≡ 7) → Changes handle.old.held handle.new.held IsDropped }
-    ensures stopped { (result ≡ 2) ⊎ (result ≡ 7) → Has handle.old.held (IsStoppedBy reply.now result) }
-    ensures idle { result ≡ 5 → Has handle.old.held IsIdle }
-    ensures under_way { Has handle.old.held IsIdle → result ≡ 5 }
-    ensures unchanged { (result ≡ 4) ⊎ (result ≡ 5) → handle.new.held ≡ handle.old.held }
-    ensures refused { result ≢ 0 → (len.new ≡ len.old) × (list_len.new ≡ list_len.old) }
-    ensures argument { (result ≡ 4) ↔ (handle.old.held ≡ None) }
+    ensures len { TellsNumber (result ≡ 0) (result ≢ 0) handle.new.held (λ h. length h.message.items) len.old len.new }
+    ensures list_len { TellsNumber ((result ≡ 0) × (len.new ≡ 0)) (result ≢ 0) handle.new.held (λ h. length h.list.items) list_len.old list_len.new }
+    ensures ended { (result ≡ 1) ⊎ (result ≡ 2) ⊎ (result ≡ 7) → Changes handle.old.held handle.new.held (IsGivenUp reply.now result) }
+    ensures refused { RefusesWhere IsIdle result handle.old.held handle.new.held }
     ensures status { (result ≡ 0) ⊎ (result ≡ 1) ⊎ (result ≡ 2) ⊎ (result ≡ 4) ⊎ (result ≡ 5) ⊎ (result ≡ 7) }
 {
     let Some(mut held) = take_out(alloc, handle) else {
@@ -161,19 +154,11 @@ pub extern "C" fn mst_proved_sync_answer(
 ) -> u32
     ensures done { result ≡ 0 → Changes handle.old.held handle.new.held (IsAnswered question.now) }
     ensures needs { result ≡ 8 → Has handle.new.held (IsNeeded question.now) }
-    ensures malformed { result ≡ 2 → IsNoQuestion question.now }
-    ensures others { result ≡ 6 → Has handle.new.held (IsOfOthers question.now) }
-    ensures refusal { (result ≡ 2) ⊎ (result ≡ 6) → Has handle.new.held (λ h. h.message.items ≡ front Refusal) }
-    ensures len { (result ≡ 0) ⊎ (result ≡ 2) ⊎ (result ≡ 6) → Has handle.new.held (λ h. len.new ≡ length h.message.items) }
-    ensures list_len { result ≡ 8 → Has handle.new.held (λ h. list_len.new ≡ length h.list.items) }
-    ensures kept { result ≢ 4 → Changes handle.old.held handle.new.held SameTree }
-    ensures session { result ≢ 4 → Changes handle.old.held handle.new.held SameSession }
-    ensures message { (result ≡ 1) ⊎ (result ≡ 8) → Changes handle.old.held handle.new.held SameMessage }
-    ensures list { result ≢ 4 → result ≢ 8 → Changes handle.old.held handle.new.held SameList }
-    ensures no_len { (result ≡ 1) ⊎ (result ≡ 4) ⊎ (result ≡ 8) → len.new ≡ len.old }
-    ensures no_list_len { result ≢ 8 → list_len.new ≡ list_len.old }
-    ensures unchanged { result ≡ 4 → handle.new.held ≡ handle.old.held }
-    ensures argument { (result ≡ 4) ↔ (handle.old.held ≡ None) }
+    ensures refused { result ≢ 4 → Has handle.new.held (λ h. MeansRefusal result question.now h.tree h.message) }
+    ensures kept { result ≢ 4 → Changes handle.old.held handle.new.held (KeepsOrNeeds result) }
+    ensures len { TellsNumber (Sends result) (SendsNothing result) handle.new.held (λ h. length h.message.items) len.old len.new }
+    ensures list_len { TellsNumber (result ≡ 8) (result ≢ 8) handle.new.held (λ h. length h.list.items) list_len.old list_len.new }
+    ensures none { RefusesNone result handle.old.held handle.new.held }
     ensures status { (result ≡ 0) ⊎ (result ≡ 1) ⊎ (result ≡ 2) ⊎ (result ≡ 4) ⊎ (result ≡ 6) ⊎ (result ≡ 8) }
 {
     let Some(mut held) = take_out(alloc, handle) else {
@@ -210,15 +195,10 @@ pub extern "C" fn mst_proved_sync_answer_with(
 ) -> u32
     ensures done { result ≡ 0 → Has handle.new.held (IsAnsweredWith question.now rows.now) }
     ensures within { result ≡ 0 → Has handle.new.held (EndsBy most_bytes question.now) }
-    ensures malformed { result ≡ 2 → IsNoQuestion question.now }
-    ensures others { result ≡ 6 → Has handle.new.held (IsOfOthers question.now) }
-    ensures refusal { (result ≡ 2) ⊎ (result ≡ 6) → Has handle.new.held (λ h. h.message.items ≡ front Refusal) }
-    ensures len { (result ≡ 0) ⊎ (result ≡ 2) ⊎ (result ≡ 6) → Has handle.new.held (λ h. len.new ≡ length h.message.items) }
-    ensures kept { handle.old.held ≢ None → Changes handle.old.held handle.new.held SameTree }
-    ensures session { handle.old.held ≢ None → Changes handle.old.held handle.new.held SameSession }
-    ensures message { handle.old.held ≢ None → (result ≡ 1) ⊎ (result ≡ 4) ⊎ (result ≡ 8) → Changes handle.old.held handle.new.held SameMessage }
+    ensures refused { handle.old.held ≢ None → Has handle.new.held (λ h. MeansRefusal result question.now h.tree h.message) }
+    ensures kept { handle.old.held ≢ None → Changes handle.old.held handle.new.held (KeepsSide result) }
     ensures list { handle.old.held ≢ None → Changes handle.old.held handle.new.held SameList }
-    ensures no_len { (result ≡ 1) ⊎ (result ≡ 4) ⊎ (result ≡ 8) → len.new ≡ len.old }
+    ensures len { TellsNumber (Sends result) (SendsNothing result) handle.new.held (λ h. length h.message.items) len.old len.new }
     ensures none { handle.old.held ≡ None → (result ≡ 4) × (handle.new.held ≡ None) }
     ensures status { (result ≡ 0) ⊎ (result ≡ 1) ⊎ (result ≡ 2) ⊎ (result ≡ 4) ⊎ (result ≡ 6) ⊎ (result ≡ 8) }
 {

@@ -9,6 +9,7 @@ pub returns-in-Ok-Ask : goal.returns-in-Ok-Ask
 returns-in-Ok-Ask c =
     let before = c.in_ok-session.session in
     record {
+      none_yet = refl;
       asking = c.in-Ok-Ask.session;
       taken = record {
         before = before;

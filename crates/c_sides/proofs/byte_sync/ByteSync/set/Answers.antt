@@ -11,8 +11,10 @@ returns-in-Ok-clause-done c =
     let old = c.args.self.now.tree in let key = c.in_ok-own_key.own_key in let bytes = c.in_ok-bytes.bytes.items in
     let same_key = c.in_ok-own_key.ensures.items in let same_value = c.in_ok-bytes.ensures.items in
     record {
-      pairs = ap (map by_key) c.in-Ok.ensures.set ∙ pairs_set (map_of old) key (siphash128 old.hasher bytes)
-          ∙ (λ i. set bytes_cmp (pairs_of old) (same_key i) (siphash128 old.hasher (same_value i)));
-      settings = c.upsert.ensures.settings;
+      tree = record {
+        rows = ap (map by_key) c.in-Ok.ensures.set ∙ pairs_set (map_of old) key (siphash128 old.hasher bytes)
+            ∙ (λ i. set bytes_cmp (pairs_of old) (same_key i) (siphash128 old.hasher (same_value i)));
+        settings = c.upsert.ensures.settings;
+      };
       talk = (refl, refl, refl);
     }
