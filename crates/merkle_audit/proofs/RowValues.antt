@@ -1,6 +1,8 @@
 -- What holds of the value at each key that rows have is what holds of each row.
 use Rattle.std.proofs.Common.{◌≡◌, Bool, true, false, List, [], ◌∷◌, Some, None, ◌⊎◌, inl, inr, sym, subst, ap, ◌∙◌}
-use Rattle.std.specs.List.{AllByRecursion}
+use Rattle.std.specs.Prelude.{◌↔◌, IsTrue}
+use Rattle.std.specs.List.{All, AllByRecursion}
+use Rattle.std.proofs.lemmas.List.Elements.{All-from_recursion, recursion_from_All}
 use Rattle.std.specs.Cmp.{IsTotalOrder}
 use Rattle.std.specs.Ordering.{is_eq}
 use Rattle.std.specs.declared.cmp.Ordering.{Ordering}
@@ -15,6 +17,12 @@ use Rattle.merkle_replica.specs.Laws.{Laws}
 use Rattle.merkle_wire.specs.Sessions.{DigestTheirValuesAlike}
 use Rattle.merkle_wire.proofs.StepCovers.{finds_own}
 use Rattle.merkle_audit.specs.Values.{HasOneDigest, IsToldApart}
+
+-- what a call tells of all elements of a list it tells of what that comes to
+pub told_of_all : {X T : Type 0} (P : X → Type 0) (told : Bool) (xs all : List X) → xs ≡ all → IsTrue told ↔ All P xs → (AllByRecursion P all → T) → (T → AllByRecursion P all)
+    → IsTrue told ↔ T
+told_of_all P told xs all same tells there back =
+    (λ is. there (recursion_from_All P all (subst (All P) same (tells.0 is))), λ t. tells.1 (subst (All P) (sym same) (All-from_recursion P all (back t))))
 
 module _ {K V : Type 0} (cmp : K → K → Ordering) (o : IsTotalOrder cmp) where
   -- what holds of each row holds of the value that is found at a key, with an equal key

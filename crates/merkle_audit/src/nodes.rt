@@ -55,15 +55,15 @@ fn all_are_faithful<K: Key + Drop, V: Join + Drop, H: RowHasher<N, K, V>, const 
     let mut gaps = Vec::new(alloc);
     gaps.push(Gap::everywhere())?;
     'levels: for _ in 0..LEVELS {
+        if gaps.is_empty() {
+            return Ok(true);
+        }
         match look_at(alloc, local, peer, &gaps)? {
             None => return Ok(false),
             Some(below) => gaps = below,
         }
-        if gaps.is_empty() {
-            return Ok(true);
-        }
     }
-    Ok(false)
+    Ok(gaps.is_empty())
 }
 
 /// The gaps of the pages right below those over the gaps, where the nodes of each page over one of the gaps are told apart.
