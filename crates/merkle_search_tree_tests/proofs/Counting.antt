@@ -4,7 +4,7 @@ use Rattle.merkle_tree_theory.specs.Tree.{Tree, page, Row, high, node, Held, not
 use Rattle.merkle_tree_theory.specs.Page.{pairs, row_pairs, held_pairs}
 use Rattle.merkle_tree_theory.specs.Events.{Event, events_of, row_events, held_events}
 use Rattle.merkle_tree_theory.specs.Traversal.{Visits, over, ends, goes_on}
-use Rattle.merkle_search_tree_tests.specs.Count.{counted}
+use Rattle.test_trees.specs.Count.{counted}
 
 -- the count after this many more nodes
 abbrev pub plus : ℕ → ℕ → ℕ

@@ -1,6 +1,6 @@
 //! A visitor that counts pages, high pages and nodes.
 
-ghost use Rattle.std.specs.Prelude.{⊤};
+ghost use Rattle.std.specs.Prelude.{◌≡◌};
 
 use merkle_search_tree::visitor::Visitor;
 use merkle_search_tree::{Node, Page};
@@ -10,12 +10,14 @@ use merkle_search_tree::{Node, Page};
 pub struct Tally {
     pages: usize,
     high_pages: usize,
-    nodes: usize,
+    pub nodes: usize,
 }
 
 impl Tally {
     /// A tally that has seen nothing.
-    pub fn new() -> Self {
+    pub fn new() -> Self
+        ensures { result.nodes ≡ 0 }
+    {
         Tally {
             pages: 0,
             high_pages: 0,
@@ -30,7 +32,10 @@ impl Tally {
 }
 
 impl<const N: usize, K> Visitor<N, K> for Tally {
-    ghost step = { λ before call answer after. ⊤ };
+    ghost use Rattle.std.specs.Prelude.{◌≡◌, true};
+    ghost use Rattle.test_trees.specs.Count.{counted};
+
+    ghost step = { λ before call answer after. (answer ≡ true) × (after.nodes ≡ counted before.nodes call) };
 
     fn pre_visit_node(&mut self, _node: &Node<N, K>) -> bool {
         true
