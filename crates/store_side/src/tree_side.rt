@@ -23,6 +23,7 @@ use store_tree::pairs::DIGEST_LEN;
 /// The tree of a store in its file, for a session that asks a peer or answers one: no tree in memory. It keeps a hash key, and the trees of the file.
 ///
 /// What isn't known of the tree's pages is found out and written, and stays uncommitted. After an error all that isn't committed is taken back.
+#[derive(Drop)]
 pub struct FileTree<S: Store> {
     alloc: Global,
     trees: S,
