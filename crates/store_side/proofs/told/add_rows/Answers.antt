@@ -15,5 +15,5 @@ returns-clause-part g c clean rows was =
     let is = c.in_ok-begin.ensures in
     let begun : c.in_ok-begin.field-0 ≡ record { room = most - length c.args.bytes.now.items; count = 0; last = bound_key text_encoding [] gap.after; bytes = [] } =
     λ i. record { room = (is.room ∙ ap (λ bytes. most - length bytes) c.deref.ensures.value) i; count = is.count i; last = is.last i; bytes = is.bytes i } in
-    c.in_ok-end.ensures most gap found rows others more (subst (λ part. HasTold text_encoding register_encoding part c.in_ok-whole.new.visitor.part found more) begun took) begin ends
+    c.in_ok-end.ensures most gap found rows others more (subst (λ part. HasTold text_encoding register_encoding part c.visit_rows.new.visitor.part found more) begun took) begin ends
     (λ less. (some less, full less))
