@@ -7,5 +7,3 @@ mod logs;
 mod random_logs;
 #[cfg(test)]
 mod sessions;
-#[cfg(test)]
-mod streams;

@@ -12,17 +12,17 @@ use store_file::{Register, Value};
 use test_keys::Random;
 
 /// The hash key of both sides.
-pub(crate) const HASH_KEY: [u8; HASH_KEY_LEN] = [9; HASH_KEY_LEN];
+const HASH_KEY: [u8; HASH_KEY_LEN] = [9; HASH_KEY_LEN];
 
 /// Rows of a store, sorted by key.
-pub(crate) type Rows = Vec<(String, Register)>;
+type Rows = Vec<(String, Register)>;
 
 /// The numbers of an entry: of its key, its time and its writer, which determine its value.
 type Numbers = (u64, u64, u64);
 
 /// The numbers of entries that are added, or put in place of all others.
 #[derive(Drop)]
-pub(crate) struct Given {
+struct Given {
     numbers: Vec<Numbers>,
     anew: bool,
 }
@@ -62,7 +62,7 @@ fn some(alloc: Global, random: &mut Random, keys: u64, anew: bool) -> Result<Giv
 }
 
 /// Random entries, of which those of one time are put in place of all others.
-pub(crate) fn random_given(
+fn random_given(
     alloc: Global,
     random: &mut Random,
     keys: u64,
@@ -77,7 +77,7 @@ pub(crate) fn random_given(
 }
 
 /// The writes of what is given.
-pub(crate) fn writes_of(alloc: Global, given: &[Given]) -> Result<Vec<Write>, AllocError> {
+fn writes_of(alloc: Global, given: &[Given]) -> Result<Vec<Write>, AllocError> {
     let mut writes = Vec::new(alloc);
     for new in given {
         let entries = entries_of(alloc, &new.numbers)?;
@@ -99,7 +99,7 @@ fn blank(alloc: Global) -> EntryReplica {
 }
 
 /// The replica of what is given.
-pub(crate) fn replica_of(alloc: Global, given: &[Given]) -> Result<EntryReplica, Fail> {
+fn replica_of(alloc: Global, given: &[Given]) -> Result<EntryReplica, Fail> {
     let mut replica = blank(alloc);
     for new in given {
         if new.anew {
@@ -134,12 +134,7 @@ fn latest_of(given: &[Given], key: u64) -> Option<(u64, u64)> {
 }
 
 /// The latest rows of one side that the other lacks, or has with another register.
-pub(crate) fn lacked(
-    alloc: Global,
-    own: &[Given],
-    given: &[Given],
-    keys: u64,
-) -> Result<Rows, AllocError> {
+fn lacked(alloc: Global, own: &[Given], given: &[Given], keys: u64) -> Result<Rows, AllocError> {
     let mut rows = Vec::new(alloc);
     for key in 0..keys {
         let there = latest_of(given, key);
