@@ -15,7 +15,7 @@ use Rattle.merkle_wire.specs.Coming.{AscendIn, IsPageDigest}
 use Rattle.merkle_wire.specs.Fit.{IsOutlineIn, AreNodesIn, NoPage, NoRows, NoOutline, NoPart}
 use Rattle.merkle_wire.specs.Gaps.{owned_gap}
 use Rattle.merkle_wire.specs.Outlines.{Outline, rows_told, digests_told, page_told, outline_bytes, keys_among, keys_told, pages_bytes, nodes_bytes}
-use Rattle.merkle_wire.specs.Replies.{Part, part_bytes, root_reply_bytes}
+use Rattle.merkle_wire.specs.Replies.{Part, part_bytes, root_bytes}
 use Rattle.merkle_wire.specs.declared.gaps.OwnedGap.{OwnedGap}
 use Rattle.merkle_wire.specs.declared.wanted.Wanted.{Wanted}
 use Rattle.merkle_wire.proofs.WrittenKeys.{told_as_keys}
@@ -230,7 +230,7 @@ no_pages count left rest ps read are few none others more (many, long) e =
 
 -- a reply says the number of rows, and the digest of the root page, or none
 abbrev pub SaysRoot : List ℕ → Type 0
-SaysRoot reply = (count : ℕ) × (digest : Option (List ℕ)) × (count < 2 ^ 64) × IsPageDigest digest × (reply ≡ root_reply_bytes count digest)
+SaysRoot reply = (count : ℕ) × (digest : Option (List ℕ)) × (count < 2 ^ 64) × IsPageDigest digest × (reply ≡ root_bytes count digest)
 
 -- the number of rows was read, and after it no digest of a page stands
 pub no_root-digest : (reply : List ℕ) (count : ℕ) (left rest : List ℕ) → reply ≡ front root_kind ++ left → left ≡ count_bytes count ++ rest

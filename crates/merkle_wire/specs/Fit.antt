@@ -7,7 +7,7 @@ use Rattle.merkle_tree_theory.specs.Gap.{Gap}
 use Rattle.merkle_wire.specs.Coming.{AscendIn, IsPageDigest, EntriesCome}
 use Rattle.merkle_wire.specs.Gaps.{owned_gap}
 use Rattle.merkle_wire.specs.Outlines.{Outline, rows_told, digests_told, page_told, page_bytes, outline_bytes}
-use Rattle.merkle_wire.specs.Replies.{Part, outline_over_bytes, part_in_bytes, value_at_bytes, root_reply_bytes, part_bytes}
+use Rattle.merkle_wire.specs.Replies.{Part, outline_over_bytes, part_in_bytes, value_at_bytes, root_bytes, part_bytes}
 use Rattle.merkle_wire.specs.declared.gaps.OwnedGap.{OwnedGap}
 use Rattle.merkle_wire.specs.declared.message.Kind.{Kind}
 use Rattle.merkle_wire.specs.declared.message.Kind.TheVariants.{Outlines as outlines_kind, Nodes as nodes_kind, RowsAt as rows_at_kind, RowsIn as rows_in_kind}
@@ -56,7 +56,7 @@ module _ {K V : Type 0} (cmp : K → K → Ordering) (is_key : K → Type 0) (is
 
   -- a reply to the question: the number of rows and the digest of the root page; outlines, where digests of values have n bytes; values; or rows
   abbrev pub IsFit : ℕ → Question K → List ℕ → Type 0
-  IsFit n (Root settings) reply = (count : ℕ) × (digest : Option (List ℕ)) × (count < 2 ^ 64) × IsPageDigest digest × (reply ≡ root_reply_bytes count digest)
+  IsFit n (Root settings) reply = (count : ℕ) × (digest : Option (List ℕ)) × (count < 2 ^ 64) × IsPageDigest digest × (reply ≡ root_bytes count digest)
   IsFit n (Outlines most gaps) reply = SaysOutlines n outlines_kind true gaps.items reply
   IsFit n (Nodes most gaps) reply = SaysOutlines n nodes_kind false gaps.items reply
   IsFit n (RowsAt keys) reply = Says rows_at_kind (value_at_bytes values) (λ w. IsOption is_value) keys.items reply

@@ -27,8 +27,7 @@ pub record HasTold {K V : Type 0} (encoding : K → List ℕ) (values : V → Li
 
 -- a message ends with rows of a gap: a part of whatever rows begin so there, as they are told, where these are all, or some and there is no room for more
 abbrev pub EndsPart : {K V : Type 0} → (K → K → Ordering) → (K → List ℕ) → (V → List ℕ) → PartSoFar → Bool → Vec ℕ → Vec ℕ → Type 0
-EndsPart {K} {V} cmp encoding values part whole old new =
-    (most : ℕ) (gap : OwnedGap K) (rows all : List (K × V)) (others : List (List ℕ × List ℕ)) (more : Bool)
+EndsPart {K} {V} cmp encoding values part whole old new = (most : ℕ) (gap : OwnedGap K) (rows all : List (K × V)) (others : List (List ℕ × List ℕ)) (more : Bool)
     → HasTold encoding values (record { room = most - length old.items; count = 0; last = bound_key encoding [] gap.after; bytes = [] }) part rows more
     → (let told = map (λ (row : K × V). (encoding row.0, values row.1)) in told (pairs_within cmp (owned_gap gap) all) ≡ told rows ++ others)
     → (whole ≡ true → others ≡ []) → (whole ≡ false → (rows ≢ []) × (more ≡ false)) → TellsPart cmp encoding values all most gap old new

@@ -100,8 +100,8 @@ abbrev pub root_page_digest : {K H : Type 0} → (K → List ℕ) → State K H 
 root_page_digest bytes_of tree = whole_digest (whole_item tree.format bytes_of tree.root)
 
 -- a reply to a question for the root: how many rows there are, and the digest of the root page, or none
-abbrev pub root_reply_bytes : ℕ → Option (List ℕ) → List ℕ
-root_reply_bytes count digest = (front root_kind ++ count_bytes count) ++ option_bytes (λ d. d) digest
+abbrev pub root_bytes : ℕ → Option (List ℕ) → List ℕ
+root_bytes count digest = (front root_kind ++ count_bytes count) ++ option_bytes (λ d. d) digest
 
 -- the items of the page over a gap
 abbrev pub items_over : {K H : Type 0} → (K → K → Ordering) → (K → List ℕ) → State K H → OwnedGap K → List (Item K (List ℕ))
@@ -110,7 +110,7 @@ items_over cmp bytes_of tree gap = outline_over tree.format bytes_of cmp tree.ro
 module _ {K V H : Type 0} (laws : Laws K V H) (n : ℕ) (encoding : K → List ℕ) (values : V → List ℕ) where
   -- the reply to a question by these rows and this tree: the number of rows and the digest of the root page, or none; outlines; values; or rows
   abbrev pub IsReply : List (K × V) → State K H → Question K → List ℕ → Type 0
-  IsReply rows tree (Root settings) reply = AreSettingsBy laws.key_digest n (digests_of tree) settings × (reply ≡ root_reply_bytes (length rows) (root_page_digest laws.bytes_of tree))
+  IsReply rows tree (Root settings) reply = AreSettingsBy laws.key_digest n (digests_of tree) settings × (reply ≡ root_bytes (length rows) (root_page_digest laws.bytes_of tree))
   IsReply rows tree (Outlines most gaps) reply =
       AnswersFirst outlines_kind (outline_over_bytes encoding values) (λ g. IsTold laws.cmp rows true (items_over laws.cmp laws.bytes_of tree g)) gaps.items reply
   IsReply rows tree (Nodes most gaps) reply = AnswersFirst nodes_kind (outline_over_bytes encoding values) (λ g. IsTold laws.cmp rows false (items_over laws.cmp laws.bytes_of tree g)) gaps.items reply

@@ -14,7 +14,7 @@ use Rattle.merkle_tree_theory.specs.Stream.{page_digest}
 use Rattle.merkle_tree_theory.specs.Tree.{Tree}
 use Rattle.merkle_wire.specs.Gaps.{owned_gap}
 use Rattle.merkle_wire.specs.Outlines.{Outline, rows_told, digests_told, page_told, digest_of_all}
-use Rattle.merkle_wire.specs.Replies.{Part, value_at_bytes, part_in_bytes, root_reply_bytes}
+use Rattle.merkle_wire.specs.Replies.{Part, value_at_bytes, part_in_bytes, root_bytes}
 use Rattle.merkle_wire.specs.declared.gaps.OwnedGap.{OwnedGap}
 use Rattle.merkle_wire.specs.declared.wanted.Wanted.{Wanted}
 use Rattle.merkle_wire.specs.Coming.{EntriesCome, AscendIn, OutlinesCome}
@@ -118,7 +118,7 @@ module _ {K V H : Type 0} (laws : Laws K V H) (n : ℕ) (encoding : K → List �
   -- what came with a reply to a question is taken, and of rows those that the side doesn't have; what is left is to be asked again
   abbrev pub HasTakenReply : Question K → List ℕ → Found K V → Found K V → Option (Question K) → Type 0
   HasTakenReply (Root settings) reply before after again = (count : ℕ) × (digest : Option (List ℕ))
-      × (reply ≡ root_reply_bytes count digest) × IsRootTaken laws local digest before after × (again ≡ None)
+      × (reply ≡ root_bytes count digest) × IsRootTaken laws local digest before after × (again ≡ None)
   HasTakenReply (Outlines most gaps) reply before after again = (left : List (OwnedGap K))
       × OutlinesCome laws.cmp encoding values n outlines_kind (λ told. AreTaken laws local told before after) gaps.items reply left × AsksAgain (Outlines most) left again
   HasTakenReply (Nodes most gaps) reply before after again = (left : List (OwnedGap K))

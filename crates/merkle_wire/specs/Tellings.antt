@@ -1,5 +1,5 @@
 -- What a side tells of its rows and its tree.
-use Rattle.std.specs.Prelude.{◌≡◌, ℕ, List, Option, IfSome, length}
+use Rattle.std.specs.Prelude.{◌≡◌, ℕ, List, Option, IfSome}
 use Rattle.std.specs.Global.{Vec}
 use Rattle.std.specs.declared.cmp.Ordering.{Ordering}
 use Rattle.key_order.specs.Map.{get}
@@ -7,7 +7,7 @@ use Rattle.merkle_replica.specs.Contents.{Contents}
 use Rattle.merkle_replica.specs.Laws.{Laws}
 use Rattle.merkle_wire.specs.Messages.{front}
 use Rattle.merkle_wire.specs.Outlines.{IsTold}
-use Rattle.merkle_wire.specs.Replies.{AnswersFirst, IsAnsweredBy, IsPartOf, IsReply, RowsFit, TellsWhatFits, items_over, outline_over_bytes, part_in_bytes, root_page_digest, root_reply_bytes, value_at_bytes}
+use Rattle.merkle_wire.specs.Replies.{AnswersFirst, IsAnsweredBy, IsPartOf, IsReply, RowsFit, TellsWhatFits, items_over, outline_over_bytes, part_in_bytes, value_at_bytes}
 use Rattle.merkle_wire.specs.declared.gaps.OwnedGap.{OwnedGap}
 use Rattle.merkle_wire.specs.declared.message.Kind.{Kind}
 use Rattle.merkle_wire.specs.declared.message.Kind.TheVariants.{RowsAt, RowsIn}
@@ -23,10 +23,6 @@ module _ {K V H : Type 0} (laws : Laws K V H) (n : ℕ) (encoding : K → List �
   -- what a side would reply itself to a question, where it replies: the reply by the rows before and the tree after
   abbrev pub IsOwnReply : Contents K V H → Contents K V H → Question K → Option (Vec ℕ) → Type 0
   IsOwnReply before after question own = IfSome own (λ reply. IsReply laws n encoding values before.rows after.tree question reply.items)
-
--- a reply tells how many rows there are, and the digest of the root page, or none
-abbrev pub TellsRoot : {K V H : Type 0} → (K → List ℕ) → Contents K V H → Vec ℕ → Type 0
-TellsRoot bytes_of side reply = reply.items ≡ root_reply_bytes (length side.rows) (root_page_digest bytes_of side.tree)
 
 -- a reply of this kind tells of the pages over the first of the gaps
 abbrev pub TellsOutlines : {K V H : Type 0} → (K → K → Ordering) → (K → List ℕ) → (K → List ℕ) → (V → List ℕ) → Contents K V H → Telling → Kind → List (OwnedGap K) → Vec ℕ → Type 0

@@ -1,10 +1,10 @@
 //! The answering side: a reply to a message, with nothing kept between messages.
-ghost use Rattle.std.specs.Prelude.{◌≡◌, false, IsSome, IsTrue, IfOk, IfErr, Some};
+ghost use Rattle.std.specs.Prelude.{◌≡◌, false, length, IsSome, IsTrue, IfOk, IfErr, Some};
 ghost use Rattle.merkle_tree_theory.specs.State.{SameSettings, map_of};
 ghost use Rattle.merkle_wire.specs.Faults.{IsUnread, OfMessage, answer_error_text, AreOtherSettings};
 ghost use Rattle.merkle_wire.specs.Questions.{AsksNothing};
-ghost use Rattle.merkle_wire.specs.Replies.{EndsWithin, IsAnsweredBy, IsAnsweredWithin, AsksWithOthers, IsReply, TellsSettings};
-ghost use Rattle.merkle_wire.specs.Tellings.{IsAnsweredOf, IsOwnReply, TellsRoot};
+ghost use Rattle.merkle_wire.specs.Replies.{EndsWithin, IsAnsweredBy, IsAnsweredWithin, AsksWithOthers, IsReply, TellsSettings, root_page_digest, root_bytes};
+ghost use Rattle.merkle_wire.specs.Tellings.{IsAnsweredOf, IsOwnReply};
 
 use crate::kept_side::KeptSide;
 use crate::message::{Kind, begin};
@@ -336,7 +336,8 @@ fn tell_root<
     const N: usize,
 >(alloc: Global, side: &mut S, beside: &R) -> Result<Vec<u8>, S::Error>
     requires hashed { S.is_sound side.old → IsSome (S.contents side.old beside.now).tree.root_hash }
-    ensures told { S.is_sound side.new → IfOk result (TellsRoot K.bytes_of (S.contents side.old beside.now)) }
+    ensures told { let s = S.contents side.old beside.now in S.is_sound side.new
+        → IfOk result (λ r. r.items ≡ root_bytes (length s.rows) (root_page_digest K.bytes_of s.tree)) }
     ensures kept { S.is_sound side.new → S.contents side.new beside.now ≡ S.contents side.old beside.now }
     ensures steady { S.is_sound side.new → S.is_sound side.old }
 {

@@ -1,19 +1,17 @@
 //! The asking side: what to ask next, and the rows that came in the end.
-ghost use Rattle.std.specs.Prelude.{◌≡◌, ◌≤◌, IfOk, IfErr, IfSome, length, ℕ, ◌⊎◌};
+ghost use Rattle.std.specs.Prelude.{◌≡◌, ◌≤◌, IfOk, IfErr, IfSome, length, ◌⊎◌};
 ghost use Rattle.merkle_replica.specs.Contents.{side};
 ghost use Rattle.merkle_tree_theory.specs.State.{SameSettings, map_of};
 ghost use Rattle.merkle_wire.specs.ByDigests.{IsStoppedWith};
 ghost use Rattle.merkle_wire.specs.Underway.{nothing};
 ghost use Rattle.merkle_wire.specs.ItsRows.{ForRowsOf, digests_of};
 ghost use Rattle.merkle_wire.specs.Limits.{Allows};
-ghost use Rattle.merkle_wire.specs.Next.{GoesOn, HasLeft, IsAsked, IsCame, IsEnded, IsStopped, OnlyAskedFor, StaysWithin, rounds_with, IfAsks, IsNext, HaveTwins};
+ghost use Rattle.merkle_wire.specs.Next.{GoesOn, HasLeft, IsAsked, IsCame, IsEnded, IsStopped, OnlyAskedFor, StaysWithin, IfAsks, IsNext, HaveTwins};
 ghost use Rattle.merkle_wire.specs.Questions.{AsksForRoot, IsQuestion, question_bytes};
 ghost use Rattle.merkle_wire.specs.Replies.{IsReply};
 ghost use Rattle.merkle_wire.specs.Sessions.{IsKeyOf};
 ghost use Rattle.merkle_wire.specs.Tellings.{IsOwnReply};
-ghost use Rattle.merkle_wire.specs.declared.session_error.SessionError.TheVariants.{Memory, TooManyRounds, Twice};
-ghost use Rattle.std.specs.Global.{Vec};
-ghost use Rattle.merkle_wire.specs.declared.gaps.OwnedGap.{OwnedGap};
+ghost use Rattle.merkle_wire.specs.declared.session_error.SessionError.TheVariants.{Memory, Twice};
 
 use crate::answering::own_reply;
 use crate::kept_side::KeptSide;
@@ -21,6 +19,7 @@ use crate::kept_tree::{KeptTree, first_key, first_row_key};
 use crate::limits::Limits;
 use crate::question::{Question, encode_question};
 use crate::replies::take_reply;
+use crate::rounds::rounds_with;
 use crate::session_error::{SessionError, TakeError};
 use crate::settings::{Settings, settings_of, settings_with};
 use crate::within::rows_ascend;
@@ -33,9 +32,6 @@ use merkle_search_tree::laws::every_tree_is_sound;
 use std::alloc::{AllocError, Global};
 use std::cmp::Ordering;
 use std::marker::Model;
-
-/// How many rounds of outlines are asked for at most: a tree has at most 256 levels.
-const MOST_ROUNDS: u32 = 256;
 
 /// A catch-up that waits for a reply.
 ///
@@ -352,25 +348,6 @@ fn go_on<K: Key + Decode, V: Join + Decode>(
             let rounds = rounds_with(rounds, &question)?;
             ask(alloc, question, work, rounds, left)
         }
-    }
-}
-
-/// How many rounds of outlines there are with a question.
-fn rounds_with<K>(rounds: u32, question: &Question<K>) -> Result<u32, SessionError>
-    requires { rounds ≤ 256 }
-    ensures with { IfOk result (λ more. more ≡ rounds_with rounds question.now) }
-    ensures few { IfOk result (λ more. more ≤ 256) }
-    ensures many { IfErr result (λ error. (error ≡ TooManyRounds) × (rounds ≡ 256)
-        × ((most : ℕ) × (gaps : Vec (OwnedGap K)) × (question.now ≡ Question.Outlines most gaps))) }
-{
-    match question {
-        Question::Outlines(_, _) => {
-            if rounds < MOST_ROUNDS {
-                return Ok(rounds + 1);
-            }
-            Err(SessionError::TooManyRounds)
-        }
-        _ => Ok(rounds),
     }
 }
 

@@ -18,6 +18,7 @@ mod pages;
 mod part_teller;
 mod question;
 mod replies;
+mod rounds;
 mod rows_at;
 mod rows_in;
 mod session;

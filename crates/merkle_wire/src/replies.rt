@@ -6,7 +6,7 @@ ghost use Rattle.merkle_wire.specs.ByDigests.{TakesOutlines, TakesReply};
 ghost use Rattle.merkle_wire.specs.Faults.{IsNotTaken, IsRefusedFor};
 ghost use Rattle.merkle_wire.specs.Fit.{IsFit, SaysOutlines};
 ghost use Rattle.merkle_wire.specs.Messages.{front};
-ghost use Rattle.merkle_wire.specs.Replies.{root_reply_bytes};
+ghost use Rattle.merkle_wire.specs.Replies.{root_bytes};
 ghost use Rattle.merkle_wire.specs.declared.session_error.SessionError.TheVariants.{Memory};
 
 use crate::coming::{read_outline, read_part, read_value};
@@ -55,9 +55,9 @@ fn reader_of<'a>(alloc: Global, reply: &'a [u8], kind: Kind) -> Result<Reader<'a
 
 /// How many rows the peer has, and the digest of its root page, or none.
 fn decode_root(alloc: Global, reply: &[u8]) -> Result<(u64, Option<PageDigest>), SessionError>
-    ensures read { IfOk result (λ root. reply.now ≡ root_reply_bytes root.0 root.1) }
+    ensures read { IfOk result (λ root. reply.now ≡ root_bytes root.0 root.1) }
     ensures refused { IfErr result (IsRefusedFor (¬ ((count : ℕ) × (digest : Option _) × (count < 2 ^ 64) × IsPageDigest digest
-        × (reply.now ≡ root_reply_bytes count digest)))) }
+        × (reply.now ≡ root_bytes count digest)))) }
 {
     let mut reader = Reader::new(alloc, reply);
     expect(&mut reader, Kind::Root)?;
