@@ -8,7 +8,7 @@ use Rattle.sqlite_trees.specs.View.{doubt, Commits, IsRolledBack}
 use Rattle.sqlite_trees.proofs.Doubt.{no_doubt}
 use Rattle.store_file.specs.Logs.{IsClean, IsOpen, IsLog, IsSteady, Leaves, Writes, trees_of}
 use Rattle.store_file.specs.Transactions.{CommitsNothing, WereWritten}
-use Rattle.store_file.proofs.Walking.{steady_then, quiet_steady}
+use Rattle.store_file.proofs.Walking.{steady_then, uncommitted_steady}
 
 module _ {S : Type 0} (g : Ghosts S)
     (shut_if_dirty : (s : S) → (g.view s).is_clean ≡ false → (g.view s).is_open ≡ false)
@@ -27,10 +27,11 @@ pub record IsCommit {S : Type 0} (g : Ghosts S) (mid new : S) : Type 0 where
   pub clean : doubt (g.view mid).is_clean ≤ doubt (g.view new).is_clean
   pub counts : g.faults mid ≤ g.faults new
   pub closes : IsClean g new → IsOpen g mid → IsOpen g new ⊎ MoreFaults (g.faults mid) (g.faults new)
+  pub was_open : IsClean g new → IsOpen g new → IsOpen g mid
   pub crash : (db : Trees) → g.recovers new db → (((g.view mid).is_broken ≡ false) × (db ≡ trees_of g mid)) ⊎ g.recovers mid db
 
 pub commit_steady : {S : Type 0} (g : Ghosts S) (mid new : S) → IsCommit g mid new → IsSteady g mid new
-commit_steady g mid new commit = record { clean = commit.clean; counts = commit.counts; closes = commit.closes }
+commit_steady g mid new commit = record { clean = commit.clean; counts = commit.counts; closes = commit.closes; was_open = commit.was_open }
 
 -- a call that wrote to the trees of a log and committed nothing, and a commit after it
 module _ {S A E : Type 0} (g : Ghosts S) (old mid new : S) (call : Result A E) (begun : IsLog g old) (uncommitted : CommitsNothing g old mid) where
@@ -47,7 +48,7 @@ module _ {S A E : Type 0} (g : Ghosts S) (old mid new : S) (call : Result A E) (
         (undone.undone o).0 ∙ kept.committed then_open ∙ sym (begun.rest (first clean) (kept.was_open then_open)).settled
 
     both : IsSteady g old new
-    both = steady_then g old mid new (quiet_steady g old mid uncommitted.quiet) steady
+    both = steady_then g old mid new (uncommitted_steady g old mid uncommitted) steady
 
   -- it succeeded, and what it wrote is committed, or taken back where that fails
   module _ (succeeded : IsOk call) (commit : IsCommit g mid new) where

@@ -4,6 +4,7 @@ pub mod Calls
 pub mod Committing
 pub mod Compacting
 pub mod FirstKey
+pub mod FormerLemmas
 pub mod Grouping
 pub mod Inserting
 pub mod LastRow

@@ -1,5 +1,5 @@
 -- What a note in place of another makes of a store.
-use Rattle.std.proofs.Common.{◌≡◌, ◌∙◌, [], ◌∷◌, ℕ, ℤ, true, not, cond, List, map, refl, sym, ap}
+use Rattle.std.proofs.Common.{◌≡◌, ◌∙◌, [], ◌∷◌, ℕ, ℤ, true, not, cond, List, map, sym, ap}
 use Rattle.std.specs.Cmp.{tied_itself}
 use Rattle.std.specs.Ordering.{is_eq}
 use Rattle.sqlite_value.specs.Order.{Row, column, value_cmp}
@@ -22,13 +22,14 @@ none_left rows row number one at = ap (without_rowid number) one ∙ ap (λ own.
 
 -- a note that is put where the old one was taken out names the store
 pub named : (old read removed new : Trees) (note : Note) (writer : List ℕ) (number : ℤ) → read ≡ old → Notes old note → note.format ≡ FORMAT
-    → without_rowid number (old 1) ≡ [] → removed 1 ≡ without_rowid number (read 1) → removed 0 ≡ read 0
+    → without_rowid number (old 1) ≡ [] → removed 1 ≡ without_rowid number (read 1) → removed 0 ≡ read 0 → removed 2 ≡ read 2
     → HasNoteMore FORMAT writer note.hash_key removed new → WritesByNow writer old new
-named old read removed new note writer number same noted format alone taken others more =
+named old read removed new note writer number same noted format alone taken others apart more =
     let none : removed 1 ≡ [] = taken ∙ ap (λ trees. without_rowid number (trees 1)) same ∙ alone in
     let one : new 1 ≡ note_row FORMAT writer note.hash_key ∷ [] = more.about ∙ ap (put_row (note_row FORMAT writer note.hash_key)) none in
     record {
       entries = more.entries ∙ others ∙ ap (λ trees. trees 0) same;
+      cells = more.cells ∙ apart ∙ ap (λ trees. trees 2) same;
       note = note;
       noted = noted;
       about = ap (map note_in) one ∙ ap (λ f. (Int f ∷ Words writer ∷ Blob note.hash_key ∷ []) ∷ []) (sym format);

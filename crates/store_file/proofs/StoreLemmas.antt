@@ -32,6 +32,10 @@ about_shape : all_shapes laid_out 1 ≡ Table
 unfolding all_shapes
 about_shape = refl
 
+cells_shape : all_shapes laid_out 2 ≡ Index plain
+unfolding all_shapes
+cells_shape = refl
+
 -- what is only read stays as it is
 pub same_image : {D : Type 0} {g : Ghosts D} {old new : Files D} → OnlyReads g old.log new.log → OnlyReads g old.db new.db → image_of g new ≡ image_of g old
 same_image log db = ap₂ (λ a b. let i : Image = record { log = a; db = b } in i) log.seen db.seen
@@ -53,6 +57,7 @@ module _ {D : Type 0} {g : Ghosts D} where
     tables = record {
       entries = rw schema entries_shape;
       about = rw schema about_shape;
+      cells = rw schema cells_shape;
       settled = sym (ap (λ o. all_shapes (kept_schema o (schema_of it))) ready.unaltered);
     };
     rest = record { sound = ready.sound (no_doubt _ clean); settled = ready.clean };

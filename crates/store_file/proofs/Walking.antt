@@ -9,7 +9,7 @@ use Rattle.sqlite_trees.specs.declared.store.Store.{Ghosts}
 use Rattle.sqlite_trees.specs.Tree.{from_key, order_of, sought}
 use Rattle.sqlite_trees.specs.View.{View, KeepsSchema, KeepsCommitted, OnlyWrites, Advances, with_cursor}
 use Rattle.store_file.specs.Logs.{HasTables, IsClean, IsOpen, IsSteady, LeavesNoMore}
-use Rattle.store_file.specs.Transactions.{StaysQuiet, CommitsNothing}
+use Rattle.store_file.specs.Transactions.{CommitsNothing}
 use Rattle.store_file.specs.Walks.{GivesRow, StaysBut}
 
 -- a walk from no key on has all rows to give
@@ -57,6 +57,7 @@ pub tables_kept : (a b : View) → KeepsSchema a b → HasTables a → HasTables
 tables_kept a b h t = record {
   entries = ap (λ s. s 0) h.shape ∙ t.entries;
   about = ap (λ s. s 1) h.shape ∙ t.about;
+  cells = ap (λ s. s 2) h.shape ∙ t.cells;
   settled = h.shape ∙ t.settled ∙ sym h.committed_shape;
 }
 
@@ -100,6 +101,7 @@ module _ {S : Type 0} (g : Ghosts S) (a b c : S) where
     clean = omega (arith, h.clean, k.clean);
     counts = omega (arith, h.counts, k.counts);
     closes = λ is o. closing (h.closes (omega (arith, k.clean, is)) o) is;
+    was_open = λ is o. h.was_open (omega (arith, k.clean, is)) (k.was_open is o);
   }
     where
       later : MoreFaults (g.faults a) (g.faults b) → MoreFaults (g.faults a) (g.faults c)
@@ -119,14 +121,14 @@ module _ {S : Type 0} (g : Ghosts S) (a b c : S) where
   pub no_more_then : LeavesNoMore g a b → LeavesNoMore g b c → LeavesNoMore g a c
   no_more_then h k trees left = h trees (k trees left)
 
--- what stays quiet is steady
-pub quiet_steady : {S : Type 0} (g : Ghosts S) (a b : S) → StaysQuiet g a b → IsSteady g a b
-quiet_steady g a b h = record { clean = h.clean; counts = h.counts; closes = h.closes }
+-- a step that commits nothing is steady
+pub uncommitted_steady : {S : Type 0} (g : Ghosts S) (a b : S) → CommitsNothing g a b → IsSteady g a b
+uncommitted_steady g a b h = record { clean = h.quiet.clean; counts = h.quiet.counts; closes = h.quiet.closes; was_open = λ is o. (h.kept is).was_open o }
 
 -- a step after another that commits nothing
 pub uncommitted_then : {S : Type 0} (g : Ghosts S) (a b c : S) → CommitsNothing g a b → CommitsNothing g b c → CommitsNothing g a c
 uncommitted_then g a b c h k =
-    let steady = steady_then g a b c (quiet_steady g a b h.quiet) (quiet_steady g b c k.quiet) in
+    let steady = steady_then g a b c (uncommitted_steady g a b h) (uncommitted_steady g b c k) in
     record {
       schema = schema_then (g.view a) (g.view b) (g.view c) h.schema k.schema;
       kept = λ clean. kept_then (g.view a) (g.view b) (g.view c) (h.kept (omega (arith, k.quiet.clean, clean))) (k.kept clean);

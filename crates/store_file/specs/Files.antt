@@ -48,13 +48,13 @@ pub record HoldsAlone (image : Image) (db : Trees) : Type 0 where
   pub both : HoldsTrees image db
   pub alone : HoldsTrees (record image { log = [] }) db
 
--- a database has the two tables, whose schema no transaction has changed, and no sums at the ends of its pages
+-- a database has the three tables, whose schema no transaction has changed, and no sums at the ends of its pages
 pub record HasStoreTables {D : Type 0} {g : Ghosts D} (it : FileStore D g) : Type 0 where
   pub plain : IsPageSize (state it).page_size
   pub schema : schema_of it ≡ laid_out
   pub unaltered : IsUnaltered it
 
--- a store with the two trees, in which nothing is written that isn't committed
+-- a store with the three trees, in which nothing is written that isn't committed
 pub record IsLaidOut (v : View) : Type 0 where
   pub tables : HasTables v
   pub rest : IsAtRest v

@@ -40,7 +40,7 @@ IsWrittenLate trees key now = (found : Option Register) × IsLatestAt trees key 
 abbrev pub written_row : List ℕ → Option Register → Key → ℕ → Option Value → Row
 written_row key found writer now value = entry_row_of key (record { time = time_after found now; writer = writer; value = value })
 
--- the table has the row of a write over `found` too, and nothing else has changed
+-- the table has the row of a write over `found` too, and no note has changed
 abbrev pub HasWriteOver : List ℕ → Option Register → Key → ℕ → Option Value → Trees → Trees → Type 0
 HasWriteOver key found writer now value = HasMore (written_row key found writer now value ∷ [])
 

@@ -3,6 +3,7 @@ pub mod Changes
 pub mod Entries
 pub mod Faults
 pub mod Files
+pub mod Former
 pub mod Latest
 pub mod Logs
 pub mod Notes

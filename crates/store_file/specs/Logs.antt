@@ -7,10 +7,11 @@ use Rattle.sqlite_trees.specs.declared.store.Store.{Ghosts}
 use Rattle.sqlite_trees.specs.Tree.{Trees}
 use Rattle.sqlite_trees.specs.View.{View, doubt}
 
--- the first tree is a table without rowids, the second one with them, and both are committed
+-- the first tree and the third one are tables without rowids, the second one has them, and all three are committed
 pub record HasTables (v : View) : Type 0 where
   pub entries : v.shape 0 ≡ Index plain
   pub about : v.shape 1 ≡ Table
+  pub cells : v.shape 2 ≡ Index plain
   pub settled : v.shape ≡ v.committed_shape
 
 -- what it shows is committed
@@ -48,11 +49,12 @@ module _ {S : Type 0} (g : Ghosts S) where
   abbrev pub Leaves : S → S → (Trees → Trees → Type 0) → Type 0
   Leaves old new Is = (trees : Trees) → g.recovers new trees → (IsClean old × Is (trees_of old) trees) ⊎ g.recovers old trees
 
-  -- a disk that isn't clean stays so, no fault is forgotten, and only a fault shuts it
+  -- a disk that isn't clean stays so, no fault is forgotten, only a fault shuts it, and what is shut stays so
   pub record IsSteady (old new : S) : Type 0 where
     pub clean : doubt (g.view old).is_clean ≤ doubt (g.view new).is_clean
     pub counts : g.faults old ≤ g.faults new
     pub closes : IsClean new → IsOpen old → IsOpen new ⊎ MoreFaults (g.faults old) (g.faults new)
+    pub was_open : IsClean new → IsOpen new → IsOpen old
 
   module _ {A E : Type 0} (old new : S) (result : Result A E) where
     -- on a clean disk, `Is` relates the trees to the answer of a successful call

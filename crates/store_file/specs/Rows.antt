@@ -45,6 +45,6 @@ last_time rows = fold (λ last (row : Key × Register). max last row.1.time) 0 r
 abbrev pub stays : ℕ → Key × Register → Bool
 stays before row = is_some row.1.value || nat_le before row.1.time
 
--- the table has the latest rows of its entries that stay, in place of its own, and nothing else has changed
+-- the table has the latest rows of its entries that stay, in place of its own, and no note has changed
 abbrev pub IsCompacted : ℕ → Trees → Trees → Type 0
 IsCompacted before old new = (rows : List (Key × Register)) × HasLatestRows old rows × HasInstead (map entry_row (filter (stays before) rows)) old new

@@ -1,7 +1,7 @@
-//! The two tables of a store's file.
+//! The three tables of a store's file.
 ghost use Rattle.std.specs.Prelude.{◌≡◌, ◌↔◌, ℤ, IfNone, IfSome, IsTrue, MatchResult, map};
 ghost use Rattle.sqlite_store.specs.Catalog.{wanted_of};
-ghost use Rattle.store_file.specs.Catalog.{AreOfFormat, IsTableRow, Lists, RefusesTables, laid_out};
+ghost use Rattle.store_file.specs.Catalog.{AreOfFormat, IsTableRow, Lists, ListsTwo, RefusesTables, laid_out};
 
 use crate::fault::StoreFault;
 use sqlite_trees::schema::Object;
@@ -17,6 +17,9 @@ pub const ENTRIES: u32 = 0;
 /// The number of the tree that says whose store it is, and in which format.
 pub const ABOUT: u32 = 1;
 
+/// The number of the tree of cells, in which `store_tree` keeps the Merkle tree of the latest rows.
+pub const CELLS: u32 = 2;
+
 /// How the table of entries is made.
 pub const ENTRIES_SQL: &str =
     "CREATE TABLE entry (key TEXT NOT NULL, time INTEGER NOT NULL, writer TEXT NOT NULL, value ANY NOT NULL, PRIMARY KEY (key, time, writer, value)) STRICT, WITHOUT ROWID";
@@ -24,6 +27,10 @@ pub const ENTRIES_SQL: &str =
 /// How the table of the format, the writer and the hash key is made.
 pub const ABOUT_SQL: &str =
     "CREATE TABLE about (id INTEGER PRIMARY KEY, format INTEGER NOT NULL, writer TEXT NOT NULL, hash_key BLOB NOT NULL) STRICT";
+
+/// How the table of cells is made.
+pub const CELLS_SQL: &str =
+    "CREATE TABLE cell (level INTEGER NOT NULL, front ANY NOT NULL, digest ANY, count INTEGER, PRIMARY KEY (level, front)) STRICT, WITHOUT ROWID";
 
 /// How the table of the format and the writer was made in formats 1 and 2.
 pub const FORMER_ABOUT_SQL: &str =
@@ -33,8 +40,8 @@ pub const FORMER_ABOUT_SQL: &str =
 pub const FORMER_ENTRIES_SQL: &str =
     "CREATE TABLE entry (id INTEGER PRIMARY KEY, key TEXT NOT NULL, time INTEGER NOT NULL, writer TEXT NOT NULL, value TEXT) STRICT";
 
-/// The two tables, each at its number.
-pub fn objects() -> [Object<'static>; 2]
+/// The three tables, each at its number.
+pub fn objects() -> [Object<'static>; 3]
     ensures { map wanted_of result ≡ laid_out }
 {
     [
@@ -54,6 +61,14 @@ pub fn objects() -> [Object<'static>; 2]
             reals: 0,
             sql: Some(ABOUT_SQL),
         },
+        Object {
+            shape: Shape::Index(Order::PLAIN),
+            kind: "table",
+            name: "cell",
+            table: "cell",
+            reals: 0,
+            sql: Some(CELLS_SQL),
+        },
     ]
 }
 
@@ -67,13 +82,25 @@ fn is_table(row: &Row, name: &[u8], sql: &[u8]) -> bool
         && is_same(row.get(5), ValueRef::Text(sql))
 }
 
-/// Whether these rows of `sqlite_schema` are those of a store, whose two tables are made so.
-fn lists(rows: &[Row], entries: &str, about: &str) -> bool
-    ensures { IsTrue result ↔ Lists entries.now about.now rows.now }
+/// Whether these rows of `sqlite_schema` are those of a store in an earlier format, whose two tables are made so.
+fn lists_two(rows: &[Row], entries: &str, about: &str) -> bool
+    ensures { IsTrue result ↔ ListsTwo entries.now about.now rows.now }
 {
     match rows {
         [first, second] => is_table(first, b"entry", entries.as_bytes())
             && is_table(second, b"about", about.as_bytes()),
+        _ => false,
+    }
+}
+
+/// Whether these rows of `sqlite_schema` are those of a store.
+fn lists(rows: &[Row]) -> bool
+    ensures { IsTrue result ↔ Lists rows.now }
+{
+    match rows {
+        [first, second, third] => is_table(first, b"entry", ENTRIES_SQL.as_bytes())
+            && is_table(second, b"about", ABOUT_SQL.as_bytes())
+            && is_table(third, b"cell", CELLS_SQL.as_bytes()),
         _ => false,
     }
 }
@@ -83,11 +110,14 @@ fn former_format(rows: &[Row]) -> Option<i64>
     ensures told { IfSome result (λ format. AreOfFormat format rows.now) }
     ensures other { IfNone result ((format : ℤ) → ¬ AreOfFormat format rows.now) }
 {
-    if lists(rows, FORMER_ENTRIES_SQL, FORMER_ABOUT_SQL) {
+    if lists_two(rows, FORMER_ENTRIES_SQL, FORMER_ABOUT_SQL) {
         return Some(1);
     }
-    if lists(rows, ENTRIES_SQL, FORMER_ABOUT_SQL) {
+    if lists_two(rows, ENTRIES_SQL, FORMER_ABOUT_SQL) {
         return Some(2);
+    }
+    if lists_two(rows, ENTRIES_SQL, ABOUT_SQL) {
+        return Some(3);
     }
     None
 }
@@ -98,9 +128,9 @@ fn former_format(rows: &[Row]) -> Option<i64>
 ///
 /// [`StoreFault::Format`] for those of a store in an earlier format, and [`StoreFault::Foreign`] for others.
 pub fn expect_tables(rows: &[Row]) -> Result<(), StoreFault>
-    ensures { MatchResult result (λ _. Lists ENTRIES_SQL.now ABOUT_SQL.now rows.now) (RefusesTables rows.now) }
+    ensures { MatchResult result (λ _. Lists rows.now) (RefusesTables rows.now) }
 {
-    if lists(rows, ENTRIES_SQL, ABOUT_SQL) {
+    if lists(rows) {
         return Ok(());
     }
     match former_format(rows) {

@@ -48,7 +48,10 @@ fn unopened<D: Disk + Drop>(
 }
 
 /// The page size of a database, if the files hold one.
-fn find_size<D: Disk>(alloc: Global, files: &mut Files<D>) -> Result<PageSize, StoreFault>
+pub(crate) fn find_size<D: Disk>(
+    alloc: Global,
+    files: &mut Files<D>,
+) -> Result<PageSize, StoreFault>
     requires log { IsTrue (D.Disk.is_usable files.old.log) }
     requires db { IsTrue (D.Disk.is_usable files.old.db) }
     ensures named { IfOk result (λ size. AreClean D.Disk files.new.log files.new.db → (held : HoldsStore (image_of D.Disk files.old)) → held.holds.size ≡ bytes_of size) }
@@ -69,7 +72,7 @@ fn find_size<D: Disk>(alloc: Global, files: &mut Files<D>) -> Result<PageSize, S
 }
 
 /// What a refusal means, where a failure of the disk is told by what the files met since this tally.
-fn named<D: Disk>(error: OpenError, before: Tally, left: &Unopened<D>) -> StoreFault
+pub(crate) fn named<D: Disk>(error: OpenError, before: Tally, left: &Unopened<D>) -> StoreFault
     ensures told { error ≢ OpenError.Io → result ≡ open_fault_of error }
     ensures disk { error ≡ OpenError.Io → result ≡ StoreFault.Database (name_of before (tally_of_files D.Disk (files_of left.now))) }
 {
@@ -153,7 +156,7 @@ pub fn open_trusted<D: Disk + Drop>(
 ///
 /// # Errors
 ///
-/// [`StoreError::Corrupt`] of the database, unless each page is in one of the two tables or free, in one place, with rows that ascend; and those of
+/// [`StoreError::Corrupt`] of the database, unless each page is in one of the three tables or free, in one place, with rows that ascend; and those of
 /// [`open`]. By the code, and by no clause, nothing is written.
 pub fn open_whole<D: Disk + Drop>(
     alloc: Global,
@@ -192,6 +195,7 @@ pub fn create<D: Disk + Drop>(alloc: Global, files: Files<D>) -> Result<FileStor
     ensures laid_out { IfOk result (λ it. IsTrue (view it).is_clean → IsLaidOut (view it)) }
     ensures entries { IfOk result (λ it. IsTrue (view it).is_clean → (view it).committed 0 ≡ []) }
     ensures about { IfOk result (λ it. IsTrue (view it).is_clean → (view it).committed 1 ≡ []) }
+    ensures cells { IfOk result (λ it. IsTrue (view it).is_clean → (view it).committed 2 ≡ []) }
     ensures nothing { IfOk result (λ it. IsTrue (view it).is_clean → ∥ HoldsNothing (image_of D.Disk files) ∥₁) }
 {
     let size = PageSize::new(NEW_SIZE).unwrap();

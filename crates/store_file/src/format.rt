@@ -1,6 +1,8 @@
 //! The format of a store's file: how it is made, and how it is recognised.
 ghost use Rattle.std.specs.Prelude.{◌≡◌, ◌≢◌, ◌⊎◌, ℤ, [], ◌∷◌, true, false, string_bytes, IfOk, IfErr, OnOk, MatchResult};
+ghost use Rattle.sqlite_trees.specs.Tree.{order_of};
 ghost use Rattle.sqlite_trees.specs.View.{OnlyWrites};
+ghost use Rattle.sqlite_value.specs.Keys.{plain};
 ghost use Rattle.sqlite_value.specs.Value.{owned};
 ghost use Rattle.sqlite_value.specs.declared.value.Value.TheVariants.{Blob, Int, Text};
 ghost use Rattle.store_file.specs.Changes.{IsBlank, IsNewStore, HasNoteMore};
@@ -11,11 +13,10 @@ ghost use Rattle.store_file.specs.Logs.{HasTables, IsClean, Finds, Makes, Refuse
 ghost use Rattle.store_file.specs.Transactions.{CommitsNothing};
 ghost use Rattle.store_file.specs.Walks.{StaysBut, MakesView};
 
-use crate::catalog::ABOUT;
+use crate::catalog::{ABOUT, CELLS, ENTRIES};
 use crate::entry::text_in;
 use crate::fault::StoreFault;
 use crate::log::{CURSOR, Log, commit, settled};
-use crate::walk::look;
 use sqlite_trees::error::StoreError;
 use sqlite_trees::store::{Direction, Store};
 use sqlite_value::row::Row;
@@ -23,7 +24,7 @@ use sqlite_value::value::ValueRef;
 use std::alloc::Global;
 
 /// The format of the file.
-pub const FORMAT: i64 = 3;
+pub const FORMAT: i64 = 4;
 
 /// How many bytes a hash key has.
 pub const HASH_KEY_LEN: usize = 16;
@@ -181,7 +182,25 @@ fn fill_note(row: &mut Row, writer: &str, hash_key: &[u8; HASH_KEY_LEN]) -> Resu
     Ok(())
 }
 
-/// Whether the first row of the table of notes, or of entries, is missing: of both.
+/// Whether a table has no row.
+fn is_empty<S: Store>(
+    trees: &mut S,
+    table: u32,
+    none: &Row,
+    row: &mut Row,
+) -> Result<bool, StoreError>
+    requires order { IsClean S.Store trees.old → order_of ((S.Store.view trees.old).shape table) ≡ plain }
+    requires none { none.now ≡ [] }
+    ensures empty { Finds S.Store trees.old trees.new result (λ old empty. empty ≡ true → old table ≡ []) }
+    ensures filled { Finds S.Store trees.old trees.new result (λ old empty. empty ≡ false → old table ≢ []) }
+    ensures same { MakesView S.Store trees.old trees.new result StaysBut }
+    ensures uncommitted { CommitsNothing S.Store trees.old trees.new }
+{
+    trees.seek(CURSOR, table, none, Direction::Forward)?;
+    Ok(!trees.next(CURSOR, row)?)
+}
+
+/// Whether no table has a row.
 fn is_blank<S: Store>(trees: &mut S, none: &Row, row: &mut Row) -> Result<bool, StoreError>
     requires tables { IsClean S.Store trees.old → HasTables (S.Store.view trees.old) }
     requires none { none.now ≡ [] }
@@ -190,11 +209,13 @@ fn is_blank<S: Store>(trees: &mut S, none: &Row, row: &mut Row) -> Result<bool, 
     ensures same { MakesView S.Store trees.old trees.new result StaysBut }
     ensures uncommitted { CommitsNothing S.Store trees.old trees.new }
 {
-    if look(trees, none, Direction::Forward, row)? {
+    if !is_empty(trees, ENTRIES, none, row)? {
         return Ok(false);
     }
-    trees.seek(CURSOR, ABOUT, none, Direction::Forward)?;
-    Ok(!trees.next(CURSOR, row)?)
+    if !is_empty(trees, ABOUT, none, row)? {
+        return Ok(false);
+    }
+    Ok(is_empty(trees, CELLS, none, row)?)
 }
 
 /// Writes the note.
@@ -240,7 +261,7 @@ fn begin<S: Store>(
 ///
 /// ```rust crates/mst_commands/src/backup.rt
 /// create(alloc, log, writer, hash_key)?;
-/// add_all(alloc, log, entries)
+/// replace_all(alloc, log, hash_key, entries)
 /// ```
 ///
 /// # Errors

@@ -154,11 +154,6 @@ fn write_over<S: Store>(
 
 /// Writes a value under a key, at the clock's time, or one above the time of what is there.
 ///
-/// ```rust crates/mst_commands/src/writing.rt
-/// let writer = String::from_str(alloc, writer)?;
-/// put(alloc, log, writer, now, key, value)?;
-/// ```
-///
 /// # Errors
 ///
 /// [`StoreFault::Time`] where the database can't hold that time, [`StoreFault::Database`], [`StoreFault::Malformed`] and
@@ -190,11 +185,6 @@ pub fn has_value(found: &Option<Register>) -> bool
 }
 
 /// Removes a key, and returns whether it was there. Where it was not, nothing is written.
-///
-/// ```rust crates/mst_commands/src/writing.rt
-/// let there = remove(alloc, log, writer, now, key)?;
-/// if there { Ok(()) } else { Err(Fault::NoKey) }
-/// ```
 ///
 /// # Errors
 ///

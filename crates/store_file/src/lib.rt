@@ -7,6 +7,7 @@ pub mod entry;
 pub mod fault;
 pub mod file;
 pub mod format;
+pub mod former;
 pub mod latest;
 pub mod log;
 pub mod naming;

@@ -39,6 +39,7 @@ fn remove_note<S: Store>(trees: &mut S, number: i64) -> Result<(), StoreFault>
     requires tables { IsClean S.Store trees.old → HasTables (S.Store.view trees.old) }
     ensures removed { Makes S.Store trees.old trees.new result (λ old new. new 1 ≡ without_rowid number (old 1)) }
     ensures others { Makes S.Store trees.old trees.new result (λ old new. new 0 ≡ old 0) }
+    ensures cells { Makes S.Store trees.old trees.new result (λ old new. new 2 ≡ old 2) }
     ensures frame { MakesView S.Store trees.old trees.new result OnlyWrites }
     ensures uncommitted { CommitsNothing S.Store trees.old trees.new }
 {

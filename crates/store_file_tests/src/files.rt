@@ -22,6 +22,7 @@ use store_file::catalog::{
     ABOUT, ABOUT_SQL, ENTRIES, ENTRIES_SQL, FORMER_ABOUT_SQL, FORMER_ENTRIES_SQL,
 };
 use store_file::file::close_any;
+use store_file::former::open_former;
 use store_file::{
     StoreFault, Unsure, close, close_files, create, is_store, open, open_trusted, reopen,
 };
@@ -39,32 +40,43 @@ fn blank(alloc: Global) -> Pair
     }
 }
 
-/// A database over files in memory whose tables have the names of a store's, and are made so.
-fn open_database(
+/// A database over files in memory whose two tables have the names of a store's, and are made so.
+fn open_tables(
     alloc: Global,
+    shape: Shape,
     entries: &str,
     notes: &str,
 ) -> Result<FileStore<Unsure<Memory>>, Fail> {
     let size = PageSize::new(512).ok_or("a page size")?;
     let pager = Pager::new(alloc, blank(alloc), size, Options::new(7))?;
-    let entry = Object {
+    let about = Object {
         shape: Shape::Table,
         kind: "table",
-        name: "entry",
-        table: "entry",
-        reals: 0,
-        sql: Some(entries),
-    };
-    let about = Object {
         name: "about",
         table: "about",
+        reals: 0,
         sql: Some(notes),
-        ..entry
+    };
+    let entry = Object {
+        shape,
+        name: "entry",
+        table: "entry",
+        sql: Some(entries),
+        ..about
     };
     match Unopened::new(alloc, pager, &[entry, about])?.create() {
         Ok(store) => Ok(store),
         Err((error, _)) => Err(Fail::from(error)),
     }
+}
+
+/// Such a database, each of whose tables has row numbers.
+fn open_database(
+    alloc: Global,
+    entries: &str,
+    notes: &str,
+) -> Result<FileStore<Unsure<Memory>>, Fail> {
+    open_tables(alloc, Shape::Table, entries, notes)
 }
 
 /// The files of such a database.
@@ -195,6 +207,35 @@ fn opens_what_is_trusted(rt: HostRuntime) -> Result<(), Fail> {
     Ok(())
 }
 
+/// The files of a store in format 3 that was filled.
+fn former(rt: &impl Abort, alloc: Global) -> Result<Pair, Fail>
+    ensures log { IfOk result (λ files. IsTrue (memory_is_usable (disk_below files.log))) }
+    ensures db { IfOk result (λ files. IsTrue (memory_is_usable (disk_below files.db))) }
+{
+    let mut row = Row::new(alloc);
+    let mut first = open_tables(alloc, Shape::Index(Order::PLAIN), ENTRIES_SQL, ABOUT_SQL)?;
+    let written = fill(rt, &mut first, &mut row);
+    let files = close_any(first)?.0;
+    written?;
+    Ok(files)
+}
+
+/// Whether a store in format 3 that was filled has its rows.
+fn is_former_filled(rt: &impl Abort, alloc: Global) -> Result<bool, Fail> {
+    let files = former(rt, alloc)?;
+    let mut row = Row::new(alloc);
+    let mut second = open_former(alloc, files)?;
+    let found = is_filled(rt, &mut second, &mut row);
+    close_any(second)?;
+    Ok(found?)
+}
+
+#[test]
+fn opens_what_is_in_format_3(rt: HostRuntime) -> Result<(), Fail> {
+    assert!(rt; is_former_filled(&rt, rt.alloc())?);
+    Ok(())
+}
+
 /// Whether a store that was filled has its rows once it is closed and opened again.
 fn is_filled_again(rt: &impl Abort, alloc: Global) -> Result<bool, Fail> {
     let mut row = Row::new(alloc);
@@ -250,8 +291,12 @@ fn opens_no_other_file(rt: HostRuntime) -> Result<(), Fail> {
     assert_eq!(rt; open(alloc, text).err(), Some(StoreFault::Foreign));
     let other = database(alloc, "CREATE TABLE entry (a)", ABOUT_SQL)?;
     assert_eq!(rt; open(alloc, other).err(), Some(StoreFault::Foreign));
-    for (format, entries) in [(1, FORMER_ENTRIES_SQL), (2, ENTRIES_SQL)] {
-        let former = database(alloc, entries, FORMER_ABOUT_SQL)?;
+    for (format, entries, about) in [
+        (1, FORMER_ENTRIES_SQL, FORMER_ABOUT_SQL),
+        (2, ENTRIES_SQL, FORMER_ABOUT_SQL),
+        (3, ENTRIES_SQL, ABOUT_SQL),
+    ] {
+        let former = database(alloc, entries, about)?;
         assert_eq!(rt; open(alloc, former).err(), Some(StoreFault::Format(format)));
     }
     Ok(())
@@ -270,6 +315,7 @@ fn gives_back_no_other_file(rt: HostRuntime) -> Result<(), Fail> {
     assert!(rt; is_no_store(alloc, "CREATE TABLE entry (a)", ABOUT_SQL)?);
     assert!(rt; is_no_store(alloc, FORMER_ENTRIES_SQL, FORMER_ABOUT_SQL)?);
     assert!(rt; is_no_store(alloc, ENTRIES_SQL, FORMER_ABOUT_SQL)?);
+    assert!(rt; is_no_store(alloc, ENTRIES_SQL, ABOUT_SQL)?);
     Ok(())
 }
 

@@ -9,16 +9,15 @@ use Rattle.key_order.specs.Map.{IsMap, rows_at}
 use Rattle.key_order.proofs.Bools.{which}
 use Rattle.key_order.proofs.Orders.{not_both}
 use Rattle.key_order.proofs.ListParts.{each-at}
-use Rattle.sqlite_value.specs.declared.value.Value.TheVariants.{Text}
 use Rattle.sqlite_value.specs.Order.{Row}
-use Rattle.sqlite_value.proofs.OrderLemmas.{value_cmp-Null, value_cmp-Text}
+use Rattle.sqlite_value.proofs.OrderLemmas.{value_cmp-Text}
 use Rattle.sqlite_trees.specs.Tree.{IsAscending}
 use Rattle.store_tree.specs.Cells.{bytes_order, KeyDigests, fronts_of}
 use Rattle.store_tree.specs.Rows.{cell_row, count_value, front_value, known_value, is_upto}
 use Rattle.store_tree.specs.Touches.{is_front}
 use Rattle.store_tree.specs.declared.cell.Known.{Known}
 use Rattle.store_tree.specs.declared.cell.Known.TheVariants.{Unknown, Nothing, Page}
-use Rattle.store_tree.proofs.Fronts.{Front, FrontBelow, FrontUpto, FrontAbove, front_upto, own_front}
+use Rattle.store_tree.proofs.Fronts.{Front, first_below, FrontBelow, FrontUpto, FrontAbove, front_upto, own_front}
 
 pub map_rows : (test : List ℕ → Bool) (ps : KeyDigests) → IsMap bytes_order ps → IsMap bytes_order (rows_at test ps)
 map_rows test [] up = tt
@@ -73,7 +72,7 @@ last_of r (f ∷ fs) (b ∷ before) row e =
     record { front = f ∷ l.front; last = l.last; is = ap (λ gs. f ∷ gs) l.is; at = l.at }
 
 pub upto_row : (key : List ℕ) (l : ℕ) (f : Front) (k : Known) → is_upto key (cell_row l f k) ≡ front_upto key f
-upto_row key l None k = ap (λ o. not (is_gt o)) (value_cmp-Null (Text key))
+upto_row key l None k = ap (λ o. not (is_gt o)) (first_below key)
 upto_row key l (Some a) k = ap (λ o. not (is_gt o)) (value_cmp-Text a key)
 
 pub passes_upto : (key : List ℕ) (f : Front) → front_upto key f ≡ true → FrontUpto key f

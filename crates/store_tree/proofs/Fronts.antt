@@ -1,5 +1,5 @@
 -- Where a key stands among the fronts of a level.
-use Rattle.std.proofs.Common.{◌≡◌, ℕ, Bool, true, false, not, if◌then◌else◌, List, [], ◌∷◌, ◌++◌, map, filter, Option, Some, None, refl, sym, ap, subst, ◌∙◌, Ordering, Less, Equal, Greater, is_eq, is_lt, is_gt}
+use Rattle.std.proofs.Common.{◌≡◌, ℕ, Bool, true, false, not, if◌then◌else◌, List, [], ◌∷◌, ◌++◌, map, filter, Option, Some, None, refl, sym, ap, subst, ◌∙◌, Ordering, Less, Equal, Greater, is_eq, is_lt, is_gt, pos, arith}
 use Rattle.std.specs.Prelude.{⊤}
 use Rattle.std.specs.List.{AllByRecursion}
 use Rattle.std.specs.Ordering.{match_ordering}
@@ -8,11 +8,18 @@ use Rattle.std.proofs.lemmas.Cmp.{tied_itself}
 use Rattle.key_order.specs.Order.{Below, Upto}
 use Rattle.key_order.specs.Map.{IsMap, set}
 use Rattle.key_order.proofs.Orders.{turned, low_low, not_both, low_is_up, not_low_self}
+use Rattle.sqlite_value.specs.declared.value.Value.TheVariants.{Int, Text}
+use Rattle.sqlite_value.specs.Order.{value_cmp}
+use Rattle.sqlite_value.proofs.OrderLemmas.{value_cmp-apart}
 use Rattle.store_tree.specs.Cells.{bytes_order, KeyDigests, fronts_of}
 use Rattle.store_tree.proofs.Sets.{same_key}
 
 abbrev pub Front : Type 0
 Front = Option (List ℕ)
+
+-- the 0 of the first gap is below each key
+pub first_below : (key : List ℕ) → value_cmp (Int (pos 0)) (Text key) ≡ Less
+first_below key = value_cmp-apart (Int (pos 0)) (Text key) (λ same. omega (arith, same))
 
 -- one front is below another: the front of the map below every key
 abbrev pub FrontBelow : Front → Front → Type 0

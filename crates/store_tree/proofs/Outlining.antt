@@ -11,6 +11,7 @@ use Rattle.merkle_tree_theory.specs.declared.page_format.PageFormat.TheVariants.
 use Rattle.merkle_tree_theory.proofs.TreeOf.{gap_of-canonical, gap_of-pairs}
 use Rattle.sqlite_value.specs.Order.{Row}
 use Rattle.sqlite_trees.specs.Tree.{Trees}
+use Rattle.store_file.specs.declared.catalog.TheConstants.{CELLS}
 use Rattle.store_tree.specs.Calls.{CountsKeys, IsRootDigest}
 use Rattle.store_tree.specs.Cells.{bytes_order, AreUnder, KeyDigests, held_within}
 use Rattle.store_tree.specs.Filling.{FindsRoot}
@@ -23,7 +24,6 @@ use Rattle.store_tree.specs.declared.cell.Known.TheVariants.{Unknown, Nothing, P
 use Rattle.store_tree.specs.declared.outline.Outline.{Outline}
 use Rattle.store_tree.specs.declared.over.PageOver.{PageOver}
 use Rattle.store_tree.specs.declared.page.Node.{Node}
-use Rattle.store_tree.specs.declared.table.TheConstants.{CELLS}
 use Rattle.store_tree.proofs.Overs.{ForTree}
 use Rattle.store_tree.proofs.Paging.{held_count, page_of_nodes, row_told}
 use Rattle.store_tree.proofs.Parts.{whole}

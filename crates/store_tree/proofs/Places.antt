@@ -7,18 +7,18 @@ use Rattle.std.proofs.lemmas.List.Elements.{filter_agree, filter_passes, recursi
 use Rattle.key_order.proofs.Bools.{which, is_equal, is_less}
 use Rattle.key_order.proofs.Orders.{compare-same}
 use Rattle.sqlite_value.specs.declared.value.Value.{Value}
-use Rattle.sqlite_value.specs.declared.value.Value.TheVariants.{Int, Text}
+use Rattle.sqlite_value.specs.declared.value.Value.TheVariants.{Int}
 use Rattle.sqlite_value.specs.Order.{Row, column, value_cmp}
 use Rattle.sqlite_value.specs.Keys.{plain, entry_cmp}
 use Rattle.sqlite_value.proofs.KeyLemmas.{first_key-plain, entry_cmp_total, then_tied}
-use Rattle.sqlite_value.proofs.OrderLemmas.{value_cmp_total, value_cmp-Int, value_cmp-Null, value_cmp-Text}
+use Rattle.sqlite_value.proofs.OrderLemmas.{value_cmp_total, value_cmp-Int, value_cmp-Text}
 use Rattle.sqlite_trees.specs.Tree.{IsIndex, insert_entry, remove_entry}
 use Rattle.sqlite_trees.proofs.ListLemmas.{all_weaker, ascending-filter, filter_all}
 use Rattle.sqlite_trees.proofs.TreeLemmas.{IsIndex-insert_entry}
 use Rattle.store_tree.specs.Cells.{bytes_order}
 use Rattle.store_tree.specs.Rows.{cell_row, count_value, front_value, known_value, is_level, rows_on}
 use Rattle.store_tree.specs.declared.cell.Known.{Known}
-use Rattle.store_tree.proofs.Fronts.{Front, FrontBelow}
+use Rattle.store_tree.proofs.Fronts.{Front, first_below, FrontBelow}
 
 -- ---- the order of rows
 
@@ -27,7 +27,7 @@ columns a b c d r s = rw first_key-plain refl
 
 fronts_order : (f g : Front) → FrontBelow f g → value_cmp (front_value f) (front_value g) ≡ Less
 fronts_order None None h = absurd h
-fronts_order None (Some b) h = value_cmp-Null (Text b)
+fronts_order None (Some b) h = first_below b
 fronts_order (Some a) None h = absurd h
 fronts_order (Some a) (Some b) h = value_cmp-Text a b ∙ is_less (bytes_order a b) h
 

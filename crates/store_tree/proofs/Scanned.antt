@@ -9,15 +9,14 @@ use Rattle.key_order.specs.Order.{Below}
 use Rattle.key_order.specs.Map.{IsMap, rows_at}
 use Rattle.key_order.proofs.Orders.{turned, low_is_up, not_both}
 use Rattle.merkle_tree_theory.specs.Gap.{is_before, pairs_within}
-use Rattle.sqlite_value.specs.declared.value.Value.TheVariants.{Text}
 use Rattle.sqlite_value.specs.Order.{Row}
-use Rattle.sqlite_value.proofs.OrderLemmas.{value_cmp-Null, value_cmp-Text}
+use Rattle.sqlite_value.proofs.OrderLemmas.{value_cmp-Text}
 use Rattle.sqlite_trees.proofs.ListLemmas.{filter-map}
 use Rattle.store_tree.specs.Cells.{bytes_order, KeyDigests, HasKey, HoldsLevel, IsBoundAt, IsProper, fronts_of, pairs_from}
 use Rattle.store_tree.specs.Pages.{gap_between}
 use Rattle.store_tree.specs.Rows.{cell_row, is_ahead, is_from, is_level, rows_between}
 use Rattle.store_tree.specs.declared.cell.Known.{Known}
-use Rattle.store_tree.proofs.Fronts.{Front}
+use Rattle.store_tree.proofs.Fronts.{Front, first_below}
 use Rattle.store_tree.proofs.Places.{filter_both, row_at, swapped}
 
 -- whether a front is from another on
@@ -34,12 +33,12 @@ front_ahead (Some b) (Some a) = is_lt (bytes_order a b)
 
 from_row : (l : ℕ) (front f : Front) (k : Known) → is_from front (cell_row l f k) ≡ front_from front f
 from_row l None f k = refl
-from_row l (Some a) None k = ap (λ o. not (is_lt o)) (value_cmp-Null (Text a))
+from_row l (Some a) None k = ap (λ o. not (is_lt o)) (first_below a)
 from_row l (Some a) (Some b) k = ap (λ o. not (is_lt o)) (value_cmp-Text b a)
 
 ahead_row : (l : ℕ) (before f : Front) (k : Known) → is_ahead before (cell_row l f k) ≡ front_ahead before f
 ahead_row l None f k = refl
-ahead_row l (Some a) None k = ap is_lt (value_cmp-Null (Text a))
+ahead_row l (Some a) None k = ap is_lt (first_below a)
 ahead_row l (Some a) (Some b) k = ap is_lt (value_cmp-Text b a)
 
 -- the front is absent, or a key of the pairs

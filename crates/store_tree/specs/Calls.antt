@@ -11,8 +11,8 @@ use Rattle.merkle_tree_theory.specs.TreeOf.{tree_of}
 use Rattle.merkle_tree_theory.specs.declared.page_format.PageFormat.TheVariants.{V2}
 use Rattle.sqlite_value.specs.Order.{Row}
 use Rattle.sqlite_trees.specs.Tree.{Trees}
+use Rattle.store_file.specs.declared.catalog.TheConstants.{CELLS}
 use Rattle.store_tree.specs.Cells.{bytes_order, KeyDigests, HoldsCells}
-use Rattle.store_tree.specs.declared.table.TheConstants.{CELLS}
 
 -- where levels are below 256, no rows are the gaps of the map without keys
 abbrev pub BeginsEmpty : Type 0

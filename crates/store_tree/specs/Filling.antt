@@ -5,6 +5,7 @@ use Rattle.key_order.specs.Map.{get}
 use Rattle.merkle_tree_theory.specs.Gap.{Gap, everywhere, pairs_within}
 use Rattle.sqlite_trees.specs.Tree.{Trees}
 use Rattle.sqlite_value.specs.Order.{Row}
+use Rattle.store_file.specs.declared.catalog.TheConstants.{CELLS}
 use Rattle.store_tree.specs.Cells.{bytes_order, KeyDigests, AreUnder, HoldsCells, IsBoundAt, IsGapOf, IsProper, Knows, held_within, pairs_from}
 use Rattle.store_tree.specs.Pages.{TellsNodes, Tells, gap_between}
 use Rattle.store_tree.specs.Rows.{bound_bytes, row_of_cell, rows_between, with_known}
@@ -13,7 +14,6 @@ use Rattle.store_tree.specs.declared.cell.Known.{Known}
 use Rattle.store_tree.specs.declared.cell.Known.TheVariants.{Unknown}
 use Rattle.store_tree.specs.declared.page.Node.{Node}
 use Rattle.store_tree.specs.declared.page.Page.{Page}
-use Rattle.store_tree.specs.declared.table.TheConstants.{CELLS}
 
 -- what is known, if anything is
 abbrev pub IsAllKnown : Known → Option Known → Type 0

@@ -13,9 +13,9 @@ use Rattle.store_tree.specs.declared.cell.Cell.{Cell}
 use Rattle.store_tree.specs.declared.cell.Known.{Known}
 use Rattle.store_tree.specs.declared.cell.Known.TheVariants.{Unknown, Nothing, Page}
 
--- the key above which a gap begins, or NULL at the front
+-- the key above which a gap begins, or 0 at the front
 abbrev pub front_value : Option (List ℕ) → Value
-front_value None = Null
+front_value None = Int (pos 0)
 front_value (Some key) = Words key
 
 -- NULL, or 0 where there is no key, or the digest of a page

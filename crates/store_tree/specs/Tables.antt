@@ -8,9 +8,9 @@ use Rattle.sqlite_trees.specs.declared.store.Store.{Ghosts}
 use Rattle.sqlite_trees.specs.Tree.{Trees}
 use Rattle.sqlite_trees.specs.View.{View}
 use Rattle.store_file.specs.Logs.{IsClean}
+use Rattle.store_file.specs.declared.catalog.TheConstants.{CELLS}
 use Rattle.store_tree.specs.Rows.{row_of_cell}
 use Rattle.store_tree.specs.declared.cell.Cell.{Cell}
-use Rattle.store_tree.specs.declared.table.TheConstants.{CELLS}
 
 -- the table of cells is a table without rowids
 abbrev pub HasCells : View → Type 0

@@ -68,7 +68,7 @@ fn front_in(alloc: Global, value: ValueRef<'_>) -> Result<Option<String>, TreeFa
     ensures { IfOk result (λ front. owned value.entry ≡ front_value (bound_bytes front)) }
 {
     let bytes = match value {
-        ValueRef::Null => return Ok(None),
+        ValueRef::Int(0) => return Ok(None),
         ValueRef::Text(bytes) => bytes,
         _ => return Err(TreeFault::Malformed),
     };
@@ -127,7 +127,7 @@ fn value_of_front(front: &Option<String>) -> ValueRef<'_>
 {
     match front {
         Some(key) => ValueRef::Text(key.as_bytes()),
-        None => ValueRef::Null,
+        None => ValueRef::Int(0),
     }
 }
 

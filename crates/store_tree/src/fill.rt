@@ -3,11 +3,11 @@ ghost use Rattle.std.specs.Prelude.{None};
 ghost use Rattle.store_file.specs.Logs.{Finds, Makes, MakesAndFinds};
 ghost use Rattle.store_file.specs.Transactions.{CommitsNothing};
 ghost use Rattle.store_file.specs.Walks.{MakesView, StaysBut, WasSound};
+ghost use Rattle.store_file.specs.declared.catalog.TheConstants.{CELLS as TREE};
 ghost use Rattle.store_tree.specs.Filling.{FillsCell, FillsGap, FillsNodes, FindsRoot, IsAllKnown, IsNodeAt, Keeps};
 ghost use Rattle.store_tree.specs.Pages.{text_gap};
 ghost use Rattle.store_tree.specs.Rows.{bound_bytes};
 ghost use Rattle.store_tree.specs.Tables.{HasTable, KeepsOthers};
-ghost use Rattle.store_tree.specs.declared.table.TheConstants.{CELLS as TREE};
 
 use crate::cell::{Cell, Known};
 use crate::digest::known_of;

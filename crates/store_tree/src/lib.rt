@@ -2,6 +2,7 @@
 #![tactic(auto)]
 
 mod cell;
+pub mod comparing;
 mod digest;
 pub mod fault;
 mod fill;

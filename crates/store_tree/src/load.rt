@@ -6,20 +6,21 @@ ghost use Rattle.sqlite_value.specs.Keys.{plain, entry_cmp};
 ghost use Rattle.store_file.specs.Logs.{Finds, Makes, MakesAndFinds};
 ghost use Rattle.store_file.specs.Transactions.{CommitsNothing};
 ghost use Rattle.store_file.specs.Walks.{GivesRow, MakesView, StaysBut};
+ghost use Rattle.store_file.specs.declared.catalog.TheConstants.{CELLS as TREE};
 ghost use Rattle.store_tree.specs.Loads.{AddsKey, HoldsNoKeys, KnowsNothing, LearnsNothing, LoadsKeys};
 ghost use Rattle.store_tree.specs.Rows.{with_fronts};
 ghost use Rattle.store_tree.specs.Tables.{HasTable, KeepsOthers};
-ghost use Rattle.store_tree.specs.declared.table.TheConstants.{CELLS as TREE};
 
 use crate::fault::TreeFault;
 use crate::seek::top;
-use crate::table::{CELLS, CURSOR};
+use crate::table::CURSOR;
 use crate::write::{grow, split};
 use sqlite_trees::error::StoreError;
 use sqlite_trees::store::{Direction, Store};
 use sqlite_value::keys::Order;
 use sqlite_value::row::Row;
 use std::alloc::Global;
+use store_file::catalog::CELLS;
 
 /// The first row from a key on.
 fn look<S: Store>(trees: &mut S, key: &Row, row: &mut Row) -> Result<bool, StoreError>

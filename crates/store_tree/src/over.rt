@@ -2,11 +2,11 @@
 ghost use Rattle.std.specs.Prelude.{◌≡◌};
 ghost use Rattle.store_file.specs.Logs.{Makes, MakesAndFinds};
 ghost use Rattle.store_file.specs.Transactions.{CommitsNothing};
+ghost use Rattle.store_file.specs.declared.catalog.TheConstants.{CELLS as TREE};
 ghost use Rattle.store_tree.specs.Calls.{FindsInTree, SaysPage};
 ghost use Rattle.store_tree.specs.Overs.{FindsLeaf, FindsOver, is_first_in as first_in};
 ghost use Rattle.store_tree.specs.Pages.{text_gap};
 ghost use Rattle.store_tree.specs.Tables.{HasTable, KeepsOthers};
-ghost use Rattle.store_tree.specs.declared.table.TheConstants.{CELLS as TREE};
 
 use crate::cell::Known;
 use crate::digest::known_of;

@@ -4,12 +4,12 @@ ghost use Rattle.merkle_tree_theory.specs.Gap.{is_after, is_before};
 ghost use Rattle.store_file.specs.Logs.{Finds};
 ghost use Rattle.store_file.specs.Transactions.{CommitsNothing};
 ghost use Rattle.store_file.specs.Walks.{MakesView, StaysBut};
+ghost use Rattle.store_file.specs.declared.catalog.TheConstants.{CELLS as TREE};
 ghost use Rattle.store_tree.specs.Cells.{bytes_order};
 ghost use Rattle.store_tree.specs.Pages.{text_gap};
 ghost use Rattle.store_tree.specs.Places.{GoesFrom, IsPlaceOver, IsStepBy, is_behind as front_behind, is_front_before as front_before};
 ghost use Rattle.store_tree.specs.Rows.{bound_bytes};
 ghost use Rattle.store_tree.specs.Tables.{HasTable};
-ghost use Rattle.store_tree.specs.declared.table.TheConstants.{CELLS as TREE};
 
 use crate::cell::Cell;
 use crate::fault::TreeFault;

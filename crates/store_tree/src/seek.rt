@@ -5,19 +5,20 @@ ghost use Rattle.sqlite_value.specs.Keys.{plain};
 ghost use Rattle.store_file.specs.Logs.{Finds};
 ghost use Rattle.store_file.specs.Transactions.{CommitsNothing};
 ghost use Rattle.store_file.specs.Walks.{GivesRow, MakesView, StaysBut, WasSound};
+ghost use Rattle.store_file.specs.declared.catalog.TheConstants.{CELLS as TREE};
 ghost use Rattle.store_tree.specs.Rows.{IsTop, bound_bytes, is_ahead as has_ahead, is_level as has_level, row_of_cell, rows_between, rows_upto, start_row};
 ghost use Rattle.store_tree.specs.Tables.{GivesLast, HasTable, IsScan};
-ghost use Rattle.store_tree.specs.declared.table.TheConstants.{CELLS as TREE};
 
 use crate::cell::{Cell, cell_of};
 use crate::fault::TreeFault;
-use crate::table::{CELLS, CURSOR};
+use crate::table::CURSOR;
 use sqlite_trees::error::StoreError;
 use sqlite_trees::store::{Direction, Store};
 use sqlite_value::order::compare;
 use sqlite_value::row::Row;
 use sqlite_value::value::ValueRef;
 use std::alloc::Global;
+use store_file::catalog::CELLS;
 
 /// Whether a row is on a level.
 fn is_level(row: &Row, level: u16) -> bool

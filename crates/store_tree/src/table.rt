@@ -4,9 +4,7 @@ ghost use Rattle.store_tree.specs.Tables.{HasTable};
 
 use sqlite_trees::store::{Shape, Store};
 use sqlite_value::keys::Order;
-
-/// The number of the tree of cells.
-pub const CELLS: u32 = 2;
+use store_file::catalog::CELLS;
 
 /// The one cursor in use.
 pub(crate) const CURSOR: u16 = 0;

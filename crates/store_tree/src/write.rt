@@ -4,19 +4,19 @@ ghost use Rattle.sqlite_trees.specs.Tree.{insert_entry, remove_entry};
 ghost use Rattle.sqlite_value.specs.Keys.{plain};
 ghost use Rattle.store_file.specs.Logs.{Makes};
 ghost use Rattle.store_file.specs.Transactions.{CommitsNothing};
+ghost use Rattle.store_file.specs.declared.catalog.TheConstants.{CELLS as TREE};
 ghost use Rattle.store_tree.specs.Calls.{WritesKey};
 ghost use Rattle.store_tree.specs.Rows.{bound_bytes, with_known, with_levels};
 ghost use Rattle.store_tree.specs.Tables.{HasTable, KeepsOthers};
 ghost use Rattle.store_tree.specs.Touches.{Touches, TouchesUpto, cleared, is_front as begins_above, split as split_rows};
-ghost use Rattle.store_tree.specs.declared.table.TheConstants.{CELLS as TREE};
 
 use crate::cell::{Cell, Known, fill};
 use crate::fault::TreeFault;
 use crate::seek::{cell_upto, top};
-use crate::table::CELLS;
 use sqlite_trees::store::Store;
 use sqlite_value::row::Row;
 use std::alloc::Global;
+use store_file::catalog::CELLS;
 
 /// Takes a row away.
 fn take<S: Store>(trees: &mut S, row: &Row) -> Result<(), TreeFault>

@@ -22,6 +22,9 @@ returns-in-Ok-clause-entries g c clean = c.in-Ok.ensures.empty clean 0 (lit< tt)
 pub returns-in-Ok-clause-about : goal.returns-in-Ok-clause-about
 returns-in-Ok-clause-about g c clean = c.in-Ok.ensures.empty clean 1 (lit< tt)
 
+pub returns-in-Ok-clause-cells : goal.returns-in-Ok-clause-cells
+returns-in-Ok-clause-cells g c clean = c.in-Ok.ensures.empty clean 2 (lit< tt)
+
 pub returns-in-Ok-clause-nothing : goal.returns-in-Ok-clause-nothing
 returns-in-Ok-clause-nothing g c clean =
     let made = c.in_ok-fresh.ensures in

@@ -13,6 +13,7 @@ returns-in_err-commit-clause-written g c begun log uncommitted =
       clean = did.clean;
       counts = did.counts;
       closes = did.open;
+      was_open = search rules;
       crash = did.crash;
     })
     _ (search rules) (search rules)
@@ -28,6 +29,7 @@ returns-clause-written g c begun log uncommitted =
       clean = did.clean;
       counts = did.counts;
       closes = did.open;
+      was_open = search rules;
       crash = did.crash;
     })
     _ (search rules) (search rules)

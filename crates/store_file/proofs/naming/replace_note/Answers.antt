@@ -20,7 +20,7 @@ returns-clause-named g c clean =
     let taken : trees_of s removed 1 ≡ without_rowid c.in_ok-number.number (trees_of s read 1) = search rules in
     on_ok c.write_note.result _ _
     (named (trees_of s old) (trees_of s read) (trees_of s removed) (trees_of s c.write_note.new.trees) c.in_ok-number.note c.args.writer.now c.in_ok-number.number
-    same (found.noted early) found.format (found.alone early) taken (took.others late))
+    same (found.noted early) found.format (found.alone early) taken (took.others late) (took.cells late))
     (c.write_note.ensures.written clean)
 
 pub returns-clause-uncommitted : goal.returns-clause-uncommitted

@@ -5,15 +5,15 @@ use Rattle.sqlite_trees.specs.View.{IsShaped}
 use Rattle.store_file.specs.Logs.{IsClean, trees_of}
 use Rattle.store_file.specs.Reading.{TakesEntry}
 use Rattle.store_file.proofs.Reading.{reads_on, reads_all}
-use Rattle.store_file.proofs.Walking.{quiet_steady}
+use Rattle.store_file.proofs.Walking.{uncommitted_steady}
 use Rattle.store_file.proofs.reader.next_entry.Goals as goal
 
 pub returns-in-Ok-clause-read : goal.returns-in-Ok-clause-read
 returns-in-Ok-clause-read g c =
     let s = g.S.Store in
-    let q = c.take_entry.ensures.uncommitted.quiet in
+    let uncommitted = c.take_entry.ensures.uncommitted in
     rw (sym c.log.view_is) (reads_on s c.log.inside.trees c.take_entry.new.trees c.in-Ok.found c.in-Ok.ensures.taken c.in-Ok.ensures.live c.in-Ok.ensures.same
-    (quiet_steady s c.log.inside.trees c.take_entry.new.trees q) q.outcomes)
+    (uncommitted_steady s c.log.inside.trees c.take_entry.new.trees uncommitted) uncommitted.quiet.outcomes)
 
 pub returns-in-Ok-clause-all : goal.returns-in-Ok-clause-all
 returns-in-Ok-clause-all g c is clean =

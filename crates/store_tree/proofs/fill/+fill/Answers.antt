@@ -5,13 +5,13 @@ use Rattle.sqlite_value.specs.Order.{Row}
 use Rattle.sqlite_trees.specs.Tree.{IsIndex, Trees}
 use Rattle.sqlite_trees.specs.View.{IsShaped}
 use Rattle.store_file.specs.Logs.{IsClean, trees_of}
+use Rattle.store_file.specs.declared.catalog.TheConstants.{CELLS}
 use Rattle.store_tree.specs.Cells.{KeyDigests}
 use Rattle.store_tree.specs.Filling.{FillsCell, FillsNodes, FillsPage, IsNodeAt, Keeps, front_of}
 use Rattle.store_tree.specs.Rows.{bound_bytes, rows_between}
 use Rattle.store_tree.specs.Tables.{HasCells, IsScan, KeepsOthers}
 use Rattle.store_tree.specs.declared.cell.Cell.{Cell}
 use Rattle.store_tree.specs.declared.page.Page.{Page}
-use Rattle.store_tree.specs.declared.table.TheConstants.{CELLS}
 use Rattle.store_tree.proofs.Filling.{SoFar, all_known_filled, cell_filled, cell_weaker, first_rest, leaf_filled, next_rest, nodes_weaker, page_filled, so_far_begins, so_far_ends, so_far_goes}
 use Rattle.store_tree.proofs.fill.+fill.Goals as goal
 

@@ -1,9 +1,9 @@
 use Rattle.std.proofs.Common.{◌+◌, ◌*◌, drop}
 use Rattle.store_file.specs.Logs.{IsClean, trees_of}
 use Rattle.store_file.specs.Transactions.{CommitsNothing}
+use Rattle.store_file.specs.declared.catalog.TheConstants.{CELLS}
 use Rattle.store_tree.specs.Rows.{bound_bytes}
 use Rattle.store_tree.specs.Tables.{HasTable, KeepsOthers}
-use Rattle.store_tree.specs.declared.table.TheConstants.{CELLS}
 use Rattle.store_tree.proofs.Filling.{SoFar}
 use Rattle.store_tree.proofs.fill.+fill.Given as goal
 

@@ -2,11 +2,11 @@ use Rattle.std.proofs.Common.{◌≡◌, ◌-◌, List, ◌∷◌, length, drop,
 use Rattle.sqlite_value.specs.Order.{Row}
 use Rattle.sqlite_trees.specs.Tree.{Trees}
 use Rattle.store_file.specs.Logs.{IsClean, trees_of}
+use Rattle.store_file.specs.declared.catalog.TheConstants.{CELLS}
 use Rattle.store_tree.specs.Cells.{KeyDigests}
 use Rattle.store_tree.specs.Rows.{IsTop, rows_between}
 use Rattle.store_tree.specs.Tables.{IsScan}
 use Rattle.store_tree.specs.declared.cell.Cell.{Cell}
-use Rattle.store_tree.specs.declared.table.TheConstants.{CELLS}
 use Rattle.store_tree.proofs.Filling.{cell_weaker, first_rest, root_filled, root_none}
 use Rattle.store_tree.proofs.fill.whole.Goals as goal
 use Rattle.std.proofs.Common.{None}

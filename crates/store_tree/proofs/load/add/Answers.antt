@@ -3,9 +3,9 @@ use Rattle.sqlite_value.specs.Keys.{plain}
 use Rattle.sqlite_trees.specs.Tree.{IsIndex}
 use Rattle.sqlite_trees.specs.View.{IsShaped}
 use Rattle.store_file.specs.Logs.{IsClean, trees_of}
+use Rattle.store_file.specs.declared.catalog.TheConstants.{CELLS}
 use Rattle.store_tree.specs.Rows.{with_fronts}
 use Rattle.store_tree.proofs.Loading.{adds_key, adds_low, adds_unknown}
-use Rattle.store_tree.specs.declared.table.TheConstants.{CELLS}
 use Rattle.store_tree.proofs.load.add.Goals as goal
 
 pub returns-then-level-eq0-clause-added : goal.returns-then-level-eq0-clause-added

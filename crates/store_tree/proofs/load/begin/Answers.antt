@@ -1,6 +1,6 @@
 use Rattle.std.proofs.Common.{arith, rules, string_bytes}
 use Rattle.store_file.specs.Logs.{IsClean, trees_of}
-use Rattle.store_tree.specs.declared.table.TheConstants.{CELLS}
+use Rattle.store_file.specs.declared.catalog.TheConstants.{CELLS}
 use Rattle.store_tree.proofs.Loading.{front_more}
 use Rattle.store_tree.proofs.load.begin.Goals as goal
 

@@ -1,7 +1,7 @@
 use Rattle.std.proofs.Common.{arith}
 use Rattle.store_file.specs.Logs.{IsClean, trees_of}
+use Rattle.store_file.specs.declared.catalog.TheConstants.{CELLS}
 use Rattle.store_tree.proofs.Loading.{no_keys, no_keys_unknown}
-use Rattle.store_tree.specs.declared.table.TheConstants.{CELLS}
 use Rattle.store_tree.proofs.load.clear.Goals as goal
 
 pub returns-clause-cleared : goal.returns-clause-cleared

@@ -1,8 +1,8 @@
 use Rattle.std.proofs.Common.{◌≡◌, ◌<◌, ◌≤◌, ◌+◌, ◌∷◌, ◌++◌, [], ap, sym, subst, ◌∙◌, arith, length, take, rules}
 use Rattle.std.proofs.lemmas.List.{take_all, take_more}
 use Rattle.store_file.specs.Logs.{IsClean, trees_of}
+use Rattle.store_file.specs.declared.catalog.TheConstants.{CELLS}
 use Rattle.store_tree.proofs.Loaded.{HoldsKeys, all_loaded, none_added, one_added}
-use Rattle.store_tree.specs.declared.table.TheConstants.{CELLS}
 use Rattle.store_tree.proofs.load.load.Goals as goal
 
 pub keys-init : goal.keys-init

@@ -1,9 +1,9 @@
 use Rattle.std.proofs.Common.{take}
 use Rattle.store_file.specs.Logs.{IsClean, trees_of}
 use Rattle.store_file.specs.Transactions.{CommitsNothing}
+use Rattle.store_file.specs.declared.catalog.TheConstants.{CELLS}
 use Rattle.store_tree.specs.Loads.{KnowsNothing}
 use Rattle.store_tree.specs.Tables.{KeepsOthers}
-use Rattle.store_tree.specs.declared.table.TheConstants.{CELLS}
 use Rattle.store_tree.proofs.Loaded.{HoldsKeys}
 use Rattle.store_tree.proofs.load.load.Given as goal
 

@@ -1,7 +1,7 @@
 use Rattle.std.proofs.Common.{rules, sym, ap, ◌∙◌}
 use Rattle.store_file.specs.Logs.{trees_of}
+use Rattle.store_file.specs.declared.catalog.TheConstants.{CELLS}
 use Rattle.store_file.proofs.Walking.{from_none, gives_none}
-use Rattle.store_tree.specs.declared.table.TheConstants.{CELLS}
 use Rattle.store_tree.proofs.load.take_first.Goals as goal
 
 pub returns-then-not-branch-clause-last : goal.returns-then-not-branch-clause-last

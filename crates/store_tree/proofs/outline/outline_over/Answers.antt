@@ -2,11 +2,11 @@ use Rattle.std.proofs.Common.{◌≡◌, ◌∙◌, List, [], ◌∷◌, length,
 use Rattle.std.specs.Vec.{vec_len}
 use Rattle.std.proofs.lemmas.Bool.{eqb-false}
 use Rattle.store_file.specs.Logs.{trees_of}
+use Rattle.store_file.specs.declared.catalog.TheConstants.{CELLS}
 use Rattle.store_tree.specs.Cells.{KeyDigests}
 use Rattle.store_tree.specs.Overs.{FindsOver}
 use Rattle.store_tree.specs.Pages.{gap_between}
 use Rattle.store_tree.specs.Rows.{bound_bytes}
-use Rattle.store_tree.specs.declared.table.TheConstants.{CELLS}
 use Rattle.store_tree.proofs.Outlining.{none_told, page_told_over}
 use Rattle.store_tree.proofs.Overs.{none_else}
 use Rattle.store_tree.proofs.outline.outline_over.Goals as goal

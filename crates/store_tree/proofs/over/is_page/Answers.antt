@@ -1,11 +1,11 @@
 use Rattle.std.proofs.Common.{◌≡◌, ◌∙◌, None, sym, subst, rules}
 use Rattle.store_file.specs.Logs.{trees_of}
+use Rattle.store_file.specs.declared.catalog.TheConstants.{CELLS}
 use Rattle.store_tree.specs.Cells.{KeyDigests}
 use Rattle.store_tree.specs.Overs.{FindsOver}
 use Rattle.store_tree.specs.Pages.{gap_between, known_of}
 use Rattle.store_tree.specs.Rows.{bound_bytes}
 use Rattle.store_tree.specs.declared.cell.Known.TheVariants.{Page as ThePage}
-use Rattle.store_tree.specs.declared.table.TheConstants.{CELLS}
 use Rattle.store_tree.proofs.Overs.{none_else, no_page, page_is, page_isn't}
 use Rattle.store_tree.proofs.over.is_page.Goals as goal
 

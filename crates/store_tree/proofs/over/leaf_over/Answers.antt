@@ -1,11 +1,11 @@
 use Rattle.std.proofs.Common.{◌≡◌, ◌∙◌, sym, ap, refl, true, false, rules}
 use Rattle.store_file.specs.Logs.{trees_of}
+use Rattle.store_file.specs.declared.catalog.TheConstants.{CELLS}
 use Rattle.store_tree.specs.Cells.{KeyDigests}
 use Rattle.store_tree.specs.Overs.{is_first_in}
 use Rattle.store_tree.specs.Pages.{gap_between}
 use Rattle.store_tree.specs.Rows.{bound_bytes}
 use Rattle.store_tree.specs.declared.over.PageOver.{PageOver}
-use Rattle.store_tree.specs.declared.table.TheConstants.{CELLS}
 use Rattle.store_tree.proofs.Overs.{leaf_none, leaf_some}
 use Rattle.store_tree.proofs.over.leaf_over.Goals as goal
 

@@ -1,6 +1,7 @@
 use Rattle.std.proofs.Common.{◌≡◌, suc, ap, subst, refl, arith, rules}
 use Rattle.sqlite_trees.specs.Tree.{Trees}
 use Rattle.store_file.specs.Logs.{IsClean, trees_of}
+use Rattle.store_file.specs.declared.catalog.TheConstants.{CELLS}
 use Rattle.store_file.proofs.Walking.{uncommitted_then}
 use Rattle.store_tree.specs.Cells.{KeyDigests}
 use Rattle.store_tree.specs.Filling.{FillsPage}
@@ -8,7 +9,6 @@ use Rattle.store_tree.specs.Overs.{FindsLeaf}
 use Rattle.store_tree.specs.Pages.{gap_between}
 use Rattle.store_tree.specs.Rows.{bound_bytes}
 use Rattle.store_tree.specs.declared.over.PageOver.{PageOver}
-use Rattle.store_tree.specs.declared.table.TheConstants.{CELLS}
 use Rattle.store_tree.proofs.Overs.{over_above, over_leaf, over_none}
 use Rattle.store_tree.proofs.over.page_over.Goals as goal
 

@@ -1,11 +1,11 @@
 use Rattle.std.proofs.Common.{◌≡◌, ◌-◌, List, None, refl, ap, subst, arith, rules}
 use Rattle.sqlite_value.specs.Order.{Row}
 use Rattle.store_file.specs.Logs.{IsClean, trees_of}
+use Rattle.store_file.specs.declared.catalog.TheConstants.{CELLS}
 use Rattle.store_tree.specs.Pages.{gap_between}
 use Rattle.store_tree.specs.Places.{GoesFrom, gap_below}
 use Rattle.store_tree.specs.Rows.{bound_bytes}
 use Rattle.store_tree.specs.declared.place.Place.{Place}
-use Rattle.store_tree.specs.declared.table.TheConstants.{CELLS}
 use Rattle.store_tree.proofs.Placing.{leads_begins, leads_ends, leads_goes, leads_here}
 use Rattle.store_tree.proofs.place.place_over.Goals as goal
 

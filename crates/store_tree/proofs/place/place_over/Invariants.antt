@@ -2,10 +2,10 @@ use Rattle.std.proofs.Common.{◌≤◌}
 use Rattle.store_file.specs.Logs.{IsClean, trees_of}
 use Rattle.store_file.specs.Transactions.{CommitsNothing}
 use Rattle.store_file.specs.Walks.{StaysBut}
+use Rattle.store_file.specs.declared.catalog.TheConstants.{CELLS}
 use Rattle.store_tree.specs.Pages.{gap_between}
 use Rattle.store_tree.specs.Rows.{bound_bytes}
 use Rattle.store_tree.specs.Tables.{HasTable}
-use Rattle.store_tree.specs.declared.table.TheConstants.{CELLS}
 use Rattle.store_tree.proofs.Placing.{Leads}
 use Rattle.store_tree.proofs.place.place_over.Given as goal
 

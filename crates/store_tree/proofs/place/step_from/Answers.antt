@@ -1,11 +1,11 @@
 use Rattle.std.proofs.Common.{◌-◌, List, subst, arith, rules}
 use Rattle.sqlite_value.specs.Order.{Row}
 use Rattle.store_file.specs.Logs.{trees_of}
+use Rattle.store_file.specs.declared.catalog.TheConstants.{CELLS}
 use Rattle.store_tree.specs.Pages.{gap_between}
 use Rattle.store_tree.specs.Places.{IsStepBy}
 use Rattle.store_tree.specs.Rows.{bound_bytes}
 use Rattle.store_tree.specs.declared.cell.Cell.{Cell}
-use Rattle.store_tree.specs.declared.table.TheConstants.{CELLS}
 use Rattle.store_tree.proofs.Placing.{goes_from}
 use Rattle.store_tree.proofs.place.step_from.Goals as goal
 

@@ -1,7 +1,7 @@
 use Rattle.std.proofs.Common.{sym, subst}
 use Rattle.store_file.specs.Logs.{trees_of}
+use Rattle.store_file.specs.declared.catalog.TheConstants.{CELLS}
 use Rattle.store_tree.specs.Calls.{IsRootDigest}
-use Rattle.store_tree.specs.declared.table.TheConstants.{CELLS}
 use Rattle.store_tree.proofs.Outlining.{root_told}
 use Rattle.store_tree.proofs.Overs.{ForTree}
 use Rattle.store_tree.proofs.root.root_digest.Goals as goal

@@ -4,9 +4,9 @@ use Rattle.sqlite_value.specs.Order.{Row}
 use Rattle.sqlite_trees.specs.Tree.{IsIndex, from_key}
 use Rattle.sqlite_trees.specs.View.{IsShaped}
 use Rattle.store_file.specs.Logs.{IsClean, trees_of}
+use Rattle.store_file.specs.declared.catalog.TheConstants.{CELLS}
 use Rattle.store_file.proofs.Walking.{uncommitted_then, stays_then, stays_kept}
 use Rattle.store_tree.specs.Rows.{bound_bytes, row_of_cell, start_row}
-use Rattle.store_tree.specs.declared.table.TheConstants.{CELLS}
 use Rattle.store_tree.proofs.Scanning.{at_end, cells_more, goes_on, scan_ends, scan_full, scan_stops, with_next, within_more}
 use Rattle.store_tree.proofs.seek.scan.Goals as goal
 

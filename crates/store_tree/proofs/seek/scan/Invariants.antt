@@ -5,8 +5,8 @@ use Rattle.sqlite_trees.specs.Tree.{from_key}
 use Rattle.store_file.specs.Logs.{IsClean, trees_of}
 use Rattle.store_file.specs.Transactions.{CommitsNothing}
 use Rattle.store_file.specs.Walks.{StaysBut}
+use Rattle.store_file.specs.declared.catalog.TheConstants.{CELLS}
 use Rattle.store_tree.specs.Rows.{bound_bytes, row_of_cell, start_row}
-use Rattle.store_tree.specs.declared.table.TheConstants.{CELLS}
 use Rattle.store_tree.proofs.Scanning.{AreWithin}
 use Rattle.store_tree.proofs.seek.scan.Given as goal
 

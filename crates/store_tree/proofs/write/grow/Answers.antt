@@ -1,6 +1,6 @@
 use Rattle.std.proofs.Common.{arith, rules}
 use Rattle.store_file.specs.Logs.{IsClean, trees_of}
-use Rattle.store_tree.specs.declared.table.TheConstants.{CELLS}
+use Rattle.store_file.specs.declared.catalog.TheConstants.{CELLS}
 use Rattle.store_tree.proofs.Writing.{one_more}
 use Rattle.store_tree.proofs.write.grow.Goals as goal
 

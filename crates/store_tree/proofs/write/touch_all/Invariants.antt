@@ -1,9 +1,9 @@
 use Rattle.std.proofs.Common.{◌≤◌, ◌-◌, string_bytes}
 use Rattle.store_file.specs.Logs.{IsClean, trees_of}
 use Rattle.store_file.specs.Transactions.{CommitsNothing}
+use Rattle.store_file.specs.declared.catalog.TheConstants.{CELLS}
 use Rattle.store_tree.specs.Tables.{KeepsOthers}
 use Rattle.store_tree.specs.Touches.{TouchesUpto}
-use Rattle.store_tree.specs.declared.table.TheConstants.{CELLS}
 use Rattle.store_tree.proofs.write.touch_all.Given as goal
 
 abbrev pub invariant-levels : goal.invariant-levels

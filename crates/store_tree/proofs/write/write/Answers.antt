@@ -3,9 +3,9 @@ use Rattle.sqlite_value.specs.Keys.{plain}
 use Rattle.sqlite_trees.specs.Tree.{IsIndex}
 use Rattle.sqlite_trees.specs.View.{IsShaped}
 use Rattle.store_file.specs.Logs.{IsClean, trees_of}
+use Rattle.store_file.specs.declared.catalog.TheConstants.{CELLS}
 use Rattle.store_tree.specs.Touches.{TouchesUpto}
 use Rattle.store_tree.proofs.Writing.{all_levels}
-use Rattle.store_tree.specs.declared.table.TheConstants.{CELLS}
 use Rattle.store_tree.proofs.write.write.Goals as goal
 
 pub returns-clause-written : goal.returns-clause-written
