@@ -1,5 +1,9 @@
 pub mod Holding
 pub mod Landing
 pub mod Looping
+pub mod Reloading
+pub mod Rooting
 pub mod Setting
+pub mod Standing
 pub mod Stepping
+pub mod TakenBack

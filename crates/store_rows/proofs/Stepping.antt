@@ -13,6 +13,7 @@ use Rattle.sqlite_trees.specs.Tree.{Trees}
 use Rattle.store_file.specs.Changes.{HasOneMore}
 use Rattle.store_file.specs.Entries.{HoldsEntries, entry_row_of}
 use Rattle.store_file.specs.Latest.{rows_of, IsLatestAt}
+use Rattle.store_file.specs.declared.catalog.TheConstants.{CELLS}
 use Rattle.store_file.specs.declared.register.Register.{Register}
 use Rattle.store_file.proofs.Inserting.{holds_more}
 use Rattle.store_tree.specs.Calls.{WritesKey}
@@ -20,7 +21,6 @@ use Rattle.store_tree.specs.Cells.{bytes_order, HoldsCells}
 use Rattle.store_tree.specs.Maps.{bytes_pair}
 use Rattle.store_tree.specs.Tables.{KeepsOthers}
 use Rattle.store_tree.specs.Texts.{bytes_map}
-use Rattle.store_tree.specs.declared.table.TheConstants.{CELLS}
 use Rattle.store_tree.proofs.Sets.{same_key}
 use Rattle.store_rows.specs.Digests.{register_digest, key_level, AreLatestDigests}
 use Rattle.store_rows.specs.InStep.{IsInStep, StaysInStep}

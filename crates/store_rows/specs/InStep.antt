@@ -5,10 +5,11 @@ use Rattle.sqlite_trees.specs.Tree.{Trees}
 use Rattle.store_file.specs.Changes.{HasEntriesMore, HasEntriesInstead}
 use Rattle.store_file.specs.Entries.{HoldsEntries}
 use Rattle.store_file.specs.Logs.{IsClean, IsOpen, trees_of}
+use Rattle.store_file.specs.declared.catalog.TheConstants.{CELLS}
 use Rattle.store_tree.specs.Cells.{HoldsCells}
 use Rattle.store_tree.specs.Loads.{KnowsNothing}
+use Rattle.store_tree.specs.Tables.{KeepsOthers}
 use Rattle.store_tree.specs.Texts.{bytes_map}
-use Rattle.store_tree.specs.declared.table.TheConstants.{CELLS}
 use Rattle.store_rows.specs.Digests.{AreLatestDigests, TextDigests, TextRows, key_level}
 
 -- the table of entries has these keys, each with the digest of its latest register, and the table of cells has the gaps of their tree
@@ -41,6 +42,11 @@ module _ (hash_key : List ℕ) (entries : TextRows) (old new : Trees) where
   pub record PutsInStep : Type 0 where
     pub instead : HasEntriesInstead entries old new
     pub in_step : IsInStep hash_key new
+
+-- no table but that of cells has changed, and where the log and its tree were in step, they are
+pub record HashesInStep (hash_key : List ℕ) (old new : Trees) : Type 0 where
+  pub others : KeepsOthers old new
+  pub kept : StaysInStep hash_key old new
 
 -- a table of entries without rows and a table of cells without rows are in step
 abbrev pub BeginsInStep : Type 0

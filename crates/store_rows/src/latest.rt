@@ -43,8 +43,8 @@ fn write_over<S: Store>(
 ///
 /// # Errors
 ///
-/// [`StoreFault::Time`] where the database can't hold that time, [`StoreFault::Database`], [`StoreFault::Malformed`] where a row is damaged, or there is
-/// no table of cells, and [`StoreFault::Memory`].
+/// [`StoreFault::Time`] where the database can't hold that time, [`StoreFault::Database`], [`StoreFault::Malformed`] where a row is damaged, and
+/// [`StoreFault::Memory`].
 pub fn put<S: Store>(
     alloc: Global,
     log: &mut Log<S>,

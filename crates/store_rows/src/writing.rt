@@ -6,12 +6,12 @@ ghost use Rattle.store_file.specs.Logs.{HasTables, IsClean, Makes, MakesAndFinds
 ghost use Rattle.store_file.specs.Registers.{HaveLateTime};
 ghost use Rattle.store_file.specs.Rows.{HasLateRow, IsCompacted};
 ghost use Rattle.store_file.specs.Transactions.{CommitsNothing};
+ghost use Rattle.store_file.specs.declared.catalog.TheConstants.{CELLS};
 ghost use Rattle.store_rows.specs.Digests.{key_level};
 ghost use Rattle.store_rows.specs.InStep.{AddsInStep, IsInStep, LoadsInStep, PutsInStep, StandsInStep, StaysInStep};
 ghost use Rattle.store_tree.specs.Calls.{WritesKey};
 ghost use Rattle.store_tree.specs.Loads.{AddsKey, HoldsNoKeys, KnowsNothing, LearnsNothing};
 ghost use Rattle.store_tree.specs.Tables.{HasTable, KeepsOthers};
-ghost use Rattle.store_tree.specs.declared.table.TheConstants.{CELLS};
 
 use merkle_digest::{Hasher, SipHasher, default_level_base, level};
 use sqlite_trees::store::Store;
@@ -21,11 +21,10 @@ use store_file::log::{Log, commit};
 use store_file::rows::{forget, read_latest};
 use store_file::table::{add_at, clear_at};
 use store_file::{Register, StoreFault};
-use store_tree::table::has_table;
 use store_tree::{load, write};
 
 /// The level of a key in the tree.
-fn level_of(hasher: &SipHasher, key: &String) -> u8
+pub(crate) fn level_of(hasher: &SipHasher, key: &String) -> u8
     ensures { result ≡ key_level hasher.now (string_bytes key.now) }
 {
     level(&hasher.hash(key), default_level_base())
@@ -52,7 +51,6 @@ fn add_one<S: Store>(
     register: &Register,
 ) -> Result<(), StoreFault>
     requires tables { IsClean S.Store trees.old → HasTables (S.Store.view trees.old) }
-    requires cells { HasTable S.Store trees.old }
     ensures added { Makes S.Store trees.old trees.new result (HasOneMore (string_bytes key.now) register.now) }
     ensures kept { Makes S.Store trees.old trees.new result (StaysInStep hasher.now) }
     ensures late { IsErrOf result StoreFault.Time → 2 ^ 63 ≤ register.now.time }
@@ -77,9 +75,6 @@ fn add_each<S: Store>(
     ensures faults { IfErr result IsUnwritten }
     ensures uncommitted { CommitsNothing S.Store trees.old trees.new }
 {
-    if !has_table(trees) {
-        return Err(StoreFault::Malformed);
-    }
     'entries: for entry in entries {
         add_one(alloc, trees, hasher, &entry.0, &entry.1)?;
     }
@@ -100,7 +95,7 @@ fn load_key<S: Store>(alloc: Global, trees: &mut S, on: u8, key: &String) -> Res
 }
 
 /// Adds an entry, unless it is there, and loads its key into a tree of which nothing is known.
-fn put_one<S: Store>(
+pub(crate) fn put_one<S: Store>(
     alloc: Global,
     trees: &mut S,
     hasher: &SipHasher,
@@ -108,7 +103,6 @@ fn put_one<S: Store>(
     register: &Register,
 ) -> Result<(), StoreFault>
     requires tables { IsClean S.Store trees.old → HasTables (S.Store.view trees.old) }
-    requires cells { HasTable S.Store trees.old }
     ensures added { Makes S.Store trees.old trees.new result (HasOneMore (string_bytes key.now) register.now) }
     ensures kept { Makes S.Store trees.old trees.new result (LoadsInStep hasher.now) }
     ensures unknown { Makes S.Store trees.old trees.new result (λ old new. LearnsNothing (old CELLS) (new CELLS)) }
@@ -137,7 +131,6 @@ fn clear_tree<S: Store>(alloc: Global, trees: &mut S) -> Result<(), StoreFault>
 /// Takes out all entries, and all keys of the tree.
 fn clear_both<S: Store>(alloc: Global, trees: &mut S) -> Result<(), StoreFault>
     requires tables { IsClean S.Store trees.old → HasTables (S.Store.view trees.old) }
-    requires cells { HasTable S.Store trees.old }
     ensures cleared { Makes S.Store trees.old trees.new result (HasInstead []) }
     ensures in_step { (hash_key : List ℕ) → Makes S.Store trees.old trees.new result (λ _. IsInStep hash_key) }
     ensures unknown { Makes S.Store trees.old trees.new result (λ _ new. KnowsNothing (new CELLS)) }
@@ -162,9 +155,6 @@ fn put_each<S: Store>(
     ensures faults { IfErr result IsUnwritten }
     ensures uncommitted { CommitsNothing S.Store trees.old trees.new }
 {
-    if !has_table(trees) {
-        return Err(StoreFault::Malformed);
-    }
     clear_both(alloc, trees)?;
     'entries: for entry in entries {
         put_one(alloc, trees, hasher, &entry.0, &entry.1)?;
@@ -182,7 +172,7 @@ fn put_each<S: Store>(
 /// # Errors
 ///
 /// [`StoreFault::Time`] where the database can't hold the time of one, [`StoreFault::Database`], [`StoreFault::Malformed`] where a row of the tree is none,
-/// or there is no table of cells, and [`StoreFault::Memory`].
+/// and [`StoreFault::Memory`].
 pub fn add_all<S: Store>(
     alloc: Global,
     log: &mut Log<S>,
@@ -205,7 +195,7 @@ pub fn add_all<S: Store>(
 /// # Errors
 ///
 /// [`StoreFault::Time`] where the database can't hold the time of an entry, [`StoreFault::Database`], [`StoreFault::Malformed`] where a table is damaged,
-/// or there is no table of cells, and [`StoreFault::Memory`].
+/// and [`StoreFault::Memory`].
 pub fn replace_all<S: Store>(
     alloc: Global,
     log: &mut Log<S>,
@@ -226,8 +216,7 @@ pub fn replace_all<S: Store>(
 ///
 /// # Errors
 ///
-/// [`StoreFault::Database`], [`StoreFault::Malformed`] where a table is damaged, or there is no table of cells, and [`StoreFault::Memory`]: the file is then
-/// as it was.
+/// [`StoreFault::Database`], [`StoreFault::Malformed`] where a table is damaged, and [`StoreFault::Memory`]: the file is then as it was.
 pub fn compact<S: Store>(
     alloc: Global,
     log: &mut Log<S>,

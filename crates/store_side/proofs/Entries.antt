@@ -16,12 +16,12 @@ use Rattle.store_file.specs.Latest.{IsLatestAt, rows_of}
 use Rattle.store_file.specs.Ranges.{HasSet}
 use Rattle.store_file.specs.Registers.{register_order}
 use Rattle.store_file.specs.contracts.register.RegisterOrd.TheImpl.Laws.{matches_eq-law}
+use Rattle.store_file.specs.declared.catalog.TheConstants.{CELLS}
 use Rattle.store_file.specs.declared.register.Register.{Register}
 use Rattle.store_file.proofs.OrderOfEntries.{row_order}
 use Rattle.store_file.proofs.Ranging.{KeepsLast, keeps_more}
 use Rattle.store_tree.specs.Cells.{HoldsCells, KeyDigests}
 use Rattle.store_tree.specs.Texts.{bytes_map}
-use Rattle.store_tree.specs.declared.table.TheConstants.{CELLS}
 use Rattle.store_rows.specs.Digests.{AreLatestDigests, AreLatestRows, AreOneRegister, TextDigests, TextRows, digest_rows, key_level}
 use Rattle.store_side.specs.FileTrees.{HasTreeOf}
 use Rattle.store_rows.proofs.Holding.{alike, latest_digests, same_bytes}

@@ -1,6 +1,6 @@
 -- What calls leave of a store's file that has the tree of its latest registers.
 use Rattle.std.specs.Prelude.{⊤}
-use Rattle.std.proofs.Common.{◌≡◌, ℕ, Bool, true, false, List, length, None, option_map, string_bytes, Result, Ok, Err, OnOk, OnErr, IfOk, IsTrue, refl, sym, ap, subst, ◌∙◌, true≢false, arith}
+use Rattle.std.proofs.Common.{◌≡◌, ℕ, Bool, true, false, List, length, None, option_map, string_bytes, Result, Ok, Err, OnOk, OnErr, IfOk, IsTrue, refl, sym, ap, subst, ◌∙◌, arith}
 use Rattle.std.proofs.lemmas.List.{length-map}
 use Rattle.std.specs.List.{last_or}
 use Rattle.sqlite_value.specs.Order.{Row}
@@ -12,16 +12,17 @@ use Rattle.store_file.specs.Latest.{rows_of}
 use Rattle.store_file.specs.Logs.{IsClean, IsOpen, trees_of}
 use Rattle.store_file.specs.Transactions.{CommitsNothing, StaysQuiet}
 use Rattle.store_file.specs.Walks.{StaysBut}
+use Rattle.store_file.specs.declared.catalog.TheConstants.{CELLS}
 use Rattle.store_tree.specs.Calls.{CountsKeys, FindsInTree}
 use Rattle.store_tree.specs.Maps.{bytes_pair}
 use Rattle.store_tree.specs.Tables.{KeepsOthers}
 use Rattle.store_tree.specs.Texts.{bytes_map}
-use Rattle.store_tree.specs.declared.table.TheConstants.{CELLS}
 use Rattle.merkle_tree_theory.specs.Tree.{Tree}
 use Rattle.merkle_tree_theory.specs.TreeOf.{tree_of}
 use Rattle.store_rows.specs.Digests.{AreLatestRows, HoldsDigests, TextDigests, TextRows, digest_row, digest_rows, key_level}
 use Rattle.store_side.specs.FileTrees.{HasTreeOf, IsFileOf}
 use Rattle.store_rows.proofs.Holding.{latest_digests}
+use Rattle.store_rows.proofs.TakenBack.{open_if_sound}
 
 -- where no table but that of cells has changed, rows still have the latest registers
 latest_stay : (rows : TextRows) (old new : Trees) → KeepsOthers old new → AreLatestRows old rows → AreLatestRows new rows
@@ -52,14 +53,6 @@ same_ok : {A E : Type 0} (P : Type 0) (result done : Result A E) → result ≡ 
 same_ok {A} {E} P result done same so = subst (λ (r : Result A E). OnOk r P) (sym same) so
 
 module _ {S : Type 0} (g : Ghosts S) (broken_if_shut : (s : S) → (g.view s).is_open ≡ false → IsTrue (g.view s).is_broken) where
-  -- what isn't broken is opened
-  pub open_if_sound : (s : S) → (g.view s).is_broken ≡ false → IsOpen g s
-  open_if_sound s sound = by (g.view s).is_open refl
-    where
-      by : (b : Bool) → (g.view s).is_open ≡ b → IsOpen g s
-      by true is = is
-      by false is = absurd (true≢false (sym (broken_if_shut s is) ∙ sound))
-
   module _ (old mid : S) (uncommitted : CommitsNothing g old mid) where
     first : IsClean g mid → IsClean g old
     first clean = omega (arith, uncommitted.quiet.clean, clean)
@@ -101,7 +94,7 @@ module _ {S : Type 0} (g : Ghosts S) (broken_if_shut : (s : S) → (g.view s).is
           cells = λ clean. ap (λ shape. shape CELLS) (shape_kept clean) ∙ was.cells (first (early clean));
           settled = λ clean. shape_kept clean ∙ was.settled (first (early clean)) ∙ sym (back.committed_shape ∙ uncommitted.schema.committed_shape);
           shown = λ clean sound.
-              let opened = open_if_sound new sound in
+              let opened = open_if_sound g broken_if_shut new sound in
               subst (λ trees. HasTreeOf hash_key rows trees) (sym (back.undone opened).0) (mid_has clean opened);
           committed = λ clean opened. subst (λ trees. HasTreeOf hash_key rows trees) (sym ((back.kept clean).committed opened)) (mid_has clean opened);
         }

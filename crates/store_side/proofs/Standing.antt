@@ -3,20 +3,19 @@ use Rattle.std.proofs.Common.{◌≡◌, Bool, true, false, ℕ, List, [], IsTru
 use Rattle.sqlite_trees.specs.declared.store.Store.{Ghosts}
 use Rattle.sqlite_trees.proofs.Doubt.{clean_of, no_doubt}
 use Rattle.store_file.specs.Logs.{IsClean, IsLog, IsOpen, trees_of}
-use Rattle.store_tree.specs.Tables.{HasTable}
 use Rattle.store_rows.specs.Digests.{TextRows}
 use Rattle.store_side.specs.FileTrees.{HasTreeOf, IsFile, IsFileOf}
 use Rattle.store_rows.specs.InStep.{StandsInStep}
 use Rattle.store_side.proofs.Entries.{entries_have_rows}
-use Rattle.store_side.proofs.Files.{open_if_sound}
+use Rattle.store_rows.proofs.TakenBack.{open_if_sound}
 
 module _ {S : Type 0} (g : Ghosts S) (broken_if_shut : (s : S) → (g.view s).is_open ≡ false → IsTrue (g.view s).is_broken)
-    (hash_key : List ℕ) (trees : S) (log : IsLog g trees) (cells : HasTable g trees) where
+    (hash_key : List ℕ) (trees : S) (log : IsLog g trees) where
   -- they are one of these rows, where they have the tree of them while they are clean and open
   file_of : (rows : TextRows) → (IsClean g trees → IsOpen g trees → HasTreeOf hash_key rows (trees_of g trees)) → IsFileOf hash_key rows g trees
   file_of rows has = record {
     entries = λ clean. (log.tables clean).entries;
-    cells = cells;
+    cells = λ clean. (log.tables clean).cells;
     settled = λ clean. (log.tables clean).settled;
     shown = λ clean sound. has clean (open_if_sound g broken_if_shut trees sound);
     committed = λ clean opened. subst (λ all. HasTreeOf hash_key rows all) (log.rest clean opened).settled (has clean opened);

@@ -15,12 +15,12 @@ use Rattle.sqlite_trees.specs.Tree.{Trees}
 use Rattle.store_file.specs.Logs.{HasEntryTable, IsClean, IsOpen, trees_of}
 use Rattle.store_file.specs.contracts.register.RegisterPartialEq.TheImpl as register_eq
 use Rattle.store_file.specs.contracts.registers.RegisterJoin.TheImpl as register_join
+use Rattle.store_file.specs.declared.catalog.TheConstants.{CELLS}
 use Rattle.store_file.specs.declared.register.Register.{Register}
 use Rattle.store_tree.specs.Calls.{SaysPage}
 use Rattle.store_tree.specs.Cells.{HoldsCells}
 use Rattle.store_tree.specs.Tables.{HasTable}
 use Rattle.store_tree.specs.Texts.{bytes_map}
-use Rattle.store_tree.specs.declared.table.TheConstants.{CELLS}
 use Rattle.store_rows.specs.Digests.{AreLatestRows, TextDigests, TextRows, register_digest, digest_rows, key_level}
 
 -- the order of keys, their bytes and digests; the equality of registers, the later of two, and their digests

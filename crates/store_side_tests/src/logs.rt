@@ -2,33 +2,33 @@
 ghost use Rattle.store_file.specs.Logs.{HasTables, IsClean, IsLog};
 ghost use Rattle.store_rows.specs.InStep.{StandsInStep};
 
-use merkle_digest::PageDigest;
 use sqlite_trees::error::StoreError;
 use sqlite_trees::memory::MemStore;
 use sqlite_trees::schema::Object;
 use sqlite_trees::store::{Shape, Store};
 use sqlite_value::keys::Order;
 use std::alloc::{AllocError, Global};
-use std::process::Abort;
 use std::test::Fail;
 use store_file::format::HASH_KEY_LEN;
 use store_file::log::Log;
 use store_file::table::Entries;
 use store_file::{StoreFault, Value};
 use store_rows::LatestDigests;
+use store_rows::hashing::{Root, hash};
 use store_rows::latest::{put, remove};
+use store_rows::loading::add_many;
 use store_rows::writing::{add_all, compact, replace_all};
 use store_side::FileTree;
 use store_side::laws::a_log_in_step_is_a_file;
 use store_tree::outline::{Outline, outline_over};
-use store_tree::root::root_digest;
-use store_tree::table::has_table;
 
 /// A write to a log, and to the tree beside it.
 #[derive(Drop)]
 pub enum Write {
     /// Entries are added.
     Add(Entries),
+    /// Entries are added, and the tree is loaded anew.
+    Load(Entries),
     /// Entries are put in place of all others.
     Replace(Entries),
     /// At this time of the clock a value is written under a key, or the key is removed where there is none.
@@ -40,7 +40,7 @@ pub enum Write {
 /// What the table of cells tells of the tree after a write: its root, and what is over a gap.
 #[derive(Drop)]
 pub struct Told {
-    pub root: Option<PageDigest>,
+    pub root: Root,
     pub outline: Option<Outline>,
 }
 
@@ -78,23 +78,19 @@ fn committed<S: Store + Drop>(trees: S) -> Result<Log<S>, StoreError>
     Ok(Log::over(trees))
 }
 
-/// The log over trees, and what their table of cells tells: its root, and what is over a gap.
+/// The log over trees, and what is over a gap, by their table of cells.
 fn ask<S: Store + Drop>(
-    rt: &impl Abort,
     alloc: Global,
     trees: S,
     pairs: &LatestDigests,
     gap: &(Option<String>, Option<String>),
-) -> Result<(Log<S>, Told), Fail>
+) -> Result<(Log<S>, Option<Outline>), Fail>
     requires tables { IsClean S.Store trees → HasTables (S.Store.view trees) }
 {
     let mut trees = trees;
-    assert!(rt; has_table(&trees));
     let outline = outline_over(alloc, &mut trees, pairs, &gap.0, &gap.1)?;
-    assert!(rt; has_table(&trees));
-    let root = root_digest(alloc, &mut trees, pairs)?;
     let log = committed(trees)?;
-    Ok((log, Told { root, outline }))
+    Ok((log, outline))
 }
 
 /// The name by which keys are set.
@@ -132,6 +128,7 @@ fn make_write<S: Store>(
 {
     match write {
         Write::Add(entries) => add_all(alloc, log, hash_key, entries)?,
+        Write::Load(entries) => add_many(alloc, log, hash_key, entries)?,
         Write::Replace(entries) => replace_all(alloc, log, hash_key, entries)?,
         Write::Set(key, now, value) => {
             let was = set_key(alloc, log, hash_key, key, *now, value)?;
@@ -142,9 +139,8 @@ fn make_write<S: Store>(
     Ok(0)
 }
 
-/// Makes a write to a log, and to the tree beside it, and asks what is over a gap. It returns what the call tells, too.
+/// Makes a write to a log, and to the tree beside it, and asks what is over a gap, and for the root. It returns what the call tells, too.
 pub fn write_and_ask<S: Store + Drop>(
-    rt: &impl Abort,
     alloc: Global,
     log: Log<S>,
     hash_key: &[u8; HASH_KEY_LEN],
@@ -153,14 +149,11 @@ pub fn write_and_ask<S: Store + Drop>(
 ) -> Result<(Log<S>, Told, usize), Fail> {
     let mut log = log;
     let count = make_write(alloc, &mut log, hash_key, write)?;
-    let (log, told) = ask(
-        rt,
-        alloc,
-        log.into_trees(),
-        &LatestDigests::new(hash_key),
-        gap,
-    )?;
-    Ok((log, told, count))
+    let pairs = LatestDigests::new(hash_key);
+    let (log, outline) = ask(alloc, log.into_trees(), &pairs, gap)?;
+    let mut log = log;
+    let root = hash(alloc, &mut log, hash_key)?;
+    Ok((log, Told { root, outline }, count))
 }
 
 /// Makes writes to a log, and to the tree beside it, one after the other.
@@ -178,20 +171,13 @@ fn make_writes<S: Store>(
     Ok(())
 }
 
-/// The asking side over a log that is in step with the tree beside it, if the table of cells is there.
-fn side_of<S: Store + Drop>(
-    alloc: Global,
-    trees: S,
-    hash_key: &[u8; HASH_KEY_LEN],
-) -> Option<FileTree<S>>
+/// The asking side over a log that is in step with the tree beside it.
+fn side_of<S: Store + Drop>(alloc: Global, trees: S, hash_key: &[u8; HASH_KEY_LEN]) -> FileTree<S>
     requires log { IsLog S.Store trees }
     requires stands { StandsInStep S.Store hash_key.now trees }
 {
-    if !has_table(&trees) {
-        return None;
-    }
     a_log_in_step_is_a_file::<S>();
-    Some(FileTree::over(alloc, trees, LatestDigests::new(hash_key)))
+    FileTree::over(alloc, trees, LatestDigests::new(hash_key))
 }
 
 /// The asking side over a log from which all entries were taken out, and to which these writes were made then.
@@ -200,7 +186,7 @@ pub fn side_after<S: Store + Drop>(
     log: Log<S>,
     hash_key: &[u8; HASH_KEY_LEN],
     writes: &[Write],
-) -> Result<Option<FileTree<S>>, StoreFault> {
+) -> Result<FileTree<S>, StoreFault> {
     let mut log = log;
     replace_all(alloc, &mut log, hash_key, &[])?;
     make_writes(alloc, &mut log, hash_key, writes)?;

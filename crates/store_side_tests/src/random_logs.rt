@@ -4,7 +4,6 @@ use merkle_search_tree::OutlineItem;
 use merkle_store::rows::{EntryReplica, read_replica};
 use sqlite_trees::memory::MemStore;
 use std::alloc::{AllocError, Global};
-use std::process::Abort;
 use std::test::Fail;
 use store_file::format::HASH_KEY_LEN;
 use store_file::log::Log;
@@ -51,7 +50,7 @@ fn entries(alloc: Global, random: &mut Random, keys: u64) -> Result<Entries, All
     Ok(entries)
 }
 
-/// A random write: half of the time of a key, now and then a compaction, and seldom in place of all entries.
+/// A random write: half of the time of a key, now and then a compaction or one that loads the tree anew, and seldom in place of all entries.
 fn some_write(alloc: Global, random: &mut Random, keys: u64) -> Result<Write, AllocError> {
     match random.below(30) {
         0 => Ok(Write::Replace(entries(alloc, random, keys)?)),
@@ -60,6 +59,7 @@ fn some_write(alloc: Global, random: &mut Random, keys: u64) -> Result<Write, Al
             let key = key_of(alloc, random.below(keys))?;
             Ok(Write::Set(key, random.below(25), value(alloc, random)?))
         }
+        17..=20 => Ok(Write::Load(entries(alloc, random, keys)?)),
         _ => Ok(Write::Add(entries(alloc, random, keys)?)),
     }
 }
@@ -122,7 +122,7 @@ fn set_key(
 /// Makes a write to a list of the latest registers, and returns what the call of the log is to tell.
 fn write_to_list(alloc: Global, rows: &mut Entries, write: &Write) -> Result<usize, AllocError> {
     match write {
-        Write::Add(entries) => set_all(rows, entries)?,
+        Write::Add(entries) | Write::Load(entries) => set_all(rows, entries)?,
         Write::Replace(entries) => {
             rows.clear();
             set_all(rows, entries)?;
@@ -148,11 +148,14 @@ fn bound(alloc: Global, random: &mut Random, keys: u64) -> Result<Option<String>
     Ok(Some(key_of(alloc, random.below(keys))?))
 }
 
-/// Whether the root page has this digest in the tree of a replica.
+/// Whether the root page has this digest in the tree of a replica, and the replica this many rows.
 fn is_root(told: &Told, replica: &EntryReplica) -> bool {
+    if told.root.count != replica.rows().len() as u64 {
+        return false;
+    }
     match replica.tree().whole() {
-        None => told.root.is_none(),
-        Some(OutlineItem::Page(_, digest)) => is_digest(&told.root, Some(digest)),
+        None => told.root.digest.is_none(),
+        Some(OutlineItem::Page(_, digest)) => is_digest(&told.root.digest, Some(digest)),
         Some(_) => false,
     }
 }
@@ -177,7 +180,6 @@ fn is_over(
 /// Makes a random write to a log and to a list, and returns the log, if it has the rows of the list then, and its table of cells tells what the tree of its
 /// replica tells.
 fn write_at_random(
-    rt: &impl Abort,
     alloc: Global,
     log: Log<MemStore>,
     rows: &mut Entries,
@@ -186,7 +188,7 @@ fn write_at_random(
 ) -> Result<Option<Log<MemStore>>, Fail> {
     let write = some_write(alloc, random, keys)?;
     let gap = (bound(alloc, random, keys)?, bound(alloc, random, keys)?);
-    let (mut log, told, count) = write_and_ask(rt, alloc, log, &HASH_KEY, &write, &gap)?;
+    let (mut log, told, count) = write_and_ask(alloc, log, &HASH_KEY, &write, &gap)?;
     let expected = write_to_list(alloc, rows, &write)?;
     rows.sort_unstable();
     let mut replica = read_replica(alloc, &mut log, &HASH_KEY)?;
@@ -208,7 +210,7 @@ fn random_writes_leave_the_tree_of_the_replica(rt: HostRuntime) -> Result<(), Fa
         let mut log = empty(rt.alloc())?;
         let mut rows = Vec::new(rt.alloc());
         for _ in 0..times {
-            let added = write_at_random(&rt, rt.alloc(), log, &mut rows, &mut random, keys)?;
+            let added = write_at_random(rt.alloc(), log, &mut rows, &mut random, keys)?;
             log = added.ok_or("another tree")?;
         }
     }

@@ -180,10 +180,7 @@ fn brought_by_file(
     peer: &mut EntryReplica,
 ) -> Result<Rows, Fail> {
     let writes = writes_of(alloc, own)?;
-    let Some(side) = side_after(alloc, empty(alloc)?, &HASH_KEY, &writes)? else {
-        return Err(Fail::new("no table of cells"));
-    };
-    let mut side = side;
+    let mut side = side_after(alloc, empty(alloc)?, &HASH_KEY, &writes)?;
     let rows = brought(alloc, &mut side, count, peer);
     let _trees = side.into_trees();
     rows
@@ -197,10 +194,7 @@ fn brought_from_file(
     given: &[Given],
 ) -> Result<Rows, Fail> {
     let writes = writes_of(alloc, given)?;
-    let Some(side) = side_after(alloc, empty(alloc)?, &HASH_KEY, &writes)? else {
-        return Err(Fail::new("no table of cells"));
-    };
-    let mut side = side;
+    let mut side = side_after(alloc, empty(alloc)?, &HASH_KEY, &writes)?;
     let rows = brought(alloc, replica, count, &mut side);
     let _trees = side.into_trees();
     rows
@@ -295,9 +289,7 @@ fn parts_bring_all(alloc: Global, most_bytes: usize, times: u64) -> Result<bool,
     let expected = lacked(alloc, &[], &given, 60)?;
     let mut peer = replica_of(alloc, &given)?;
     let writes = writes_of(alloc, &given)?;
-    let Some(mut file) = side_after(alloc, empty(alloc)?, &HASH_KEY, &writes)? else {
-        return Err(Fail::new("no table of cells"));
-    };
+    let mut file = side_after(alloc, empty(alloc)?, &HASH_KEY, &writes)?;
     let brought = brought_in_parts(alloc, &mut peer, &mut file, most_bytes);
     let _trees = file.into_trees();
     let (rows, replies) = brought?;

@@ -1,9 +1,7 @@
 use Rattle.std.proofs.Common.{◌≡◌, ◌<◌, ◌+◌, ◌∷◌, ◌++◌, [], ℕ, ap, sym, subst, ◌∙◌, arith, length, take, rules}
 use Rattle.std.proofs.lemmas.List.{take_more}
-use Rattle.sqlite_trees.specs.declared.store.Shape.{Shape}
 use Rattle.store_file.specs.Logs.{IsClean, trees_of}
 use Rattle.store_file.proofs.Walking.{tables_kept, uncommitted_then}
-use Rattle.store_tree.specs.declared.table.TheConstants.{CELLS}
 use Rattle.store_rows.specs.InStep.{AddsInStep}
 use Rattle.store_rows.proofs.Looping.{adds_one}
 use Rattle.store_rows.proofs.writing.add_each.Goals as goal
@@ -22,7 +20,6 @@ entries-preserved g c =
     let early : IsClean s new → IsClean s mid = λ clean. omega (arith, c.add_one.ensures.uncommitted.quiet.clean, clean) in
     record {
       tables = λ clean. tables_kept (s.view mid) (s.view new) c.add_one.ensures.uncommitted.schema (was.tables (early clean));
-      cells = λ clean. ap (λ (shape : ℕ → Shape). shape CELLS) c.add_one.ensures.uncommitted.schema.shape ∙ was.cells (early clean);
       added = λ clean.
           let low : c.entries.entry-index < length c.args.entries.now = omega arith in
           let more : seen ++ one ∷ [] ≡ take (c.entries.entry-index + 1) c.args.entries.now =

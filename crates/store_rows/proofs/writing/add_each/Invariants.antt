@@ -1,7 +1,6 @@
 use Rattle.std.proofs.Common.{take}
 use Rattle.store_file.specs.Logs.{HasTables, IsClean, trees_of}
 use Rattle.store_file.specs.Transactions.{CommitsNothing}
-use Rattle.store_tree.specs.Tables.{HasTable}
 use Rattle.store_rows.specs.InStep.{AddsInStep}
 use Rattle.store_rows.proofs.writing.add_each.Given as goal
 
@@ -10,7 +9,6 @@ invariant-entries g l =
     let s = g.S.Store in
     let clean = IsClean s l.trees in record {
       tables : clean → HasTables (s.view l.trees);
-      cells : HasTable s l.trees;
       added : clean → AddsInStep l.fn.hasher (take l.entry-index l.fn.entries) (trees_of s l.fn.trees) (trees_of s l.trees);
       uncommitted : CommitsNothing s l.fn.trees l.trees;
     }

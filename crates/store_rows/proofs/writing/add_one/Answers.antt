@@ -1,6 +1,6 @@
 use Rattle.std.proofs.Common.{arith}
 use Rattle.store_file.specs.Logs.{IsClean, trees_of}
-use Rattle.store_tree.specs.declared.table.TheConstants.{CELLS}
+use Rattle.store_file.specs.declared.catalog.TheConstants.{CELLS}
 use Rattle.store_rows.proofs.Stepping.{set_kept}
 use Rattle.store_rows.proofs.writing.add_one.Goals as goal
 

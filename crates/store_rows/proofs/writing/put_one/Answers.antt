@@ -1,7 +1,7 @@
 use Rattle.std.proofs.Common.{arith, sym, subst}
 use Rattle.store_file.specs.Logs.{IsClean, trees_of}
+use Rattle.store_file.specs.declared.catalog.TheConstants.{CELLS}
 use Rattle.store_tree.specs.Loads.{KnowsNothing}
-use Rattle.store_tree.specs.declared.table.TheConstants.{CELLS}
 use Rattle.store_rows.proofs.Stepping.{set_kept}
 use Rattle.store_rows.proofs.writing.put_one.Goals as goal
 

@@ -7,4 +7,5 @@ use Rattle.store_side_tests.proofs.logs.empty.Goals as goal
 pub over-requires : goal.over-requires
 over-requires c =
     made_log _ (λ s sound. memory_is_unaltered s) c.in_ok-trees.trees (ap (λ (shape : ℕ → Shape). shape 0) c.in_ok-trees.ensures.shape ∙ search rules)
-    (ap (λ (shape : ℕ → Shape). shape 1) c.in_ok-trees.ensures.shape ∙ search rules) c.in_ok-trees.ensures.clean c.in_ok-trees.ensures.sound
+    (ap (λ (shape : ℕ → Shape). shape 1) c.in_ok-trees.ensures.shape ∙ search rules) (ap (λ (shape : ℕ → Shape). shape 2) c.in_ok-trees.ensures.shape ∙ search rules)
+    c.in_ok-trees.ensures.clean c.in_ok-trees.ensures.sound

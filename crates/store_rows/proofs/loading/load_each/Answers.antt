@@ -1,0 +1,40 @@
+use Rattle.std.proofs.Common.{◌≡◌, ◌<◌, ◌+◌, ◌∷◌, ◌++◌, [], ℕ, ap, sym, subst, ◌∙◌, arith, length, take, rules}
+use Rattle.std.proofs.lemmas.List.{take_more}
+use Rattle.store_file.specs.Logs.{IsClean, trees_of}
+use Rattle.store_file.proofs.Walking.{tables_kept, uncommitted_then}
+use Rattle.store_rows.specs.InStep.{AddsInStep}
+use Rattle.store_rows.proofs.Looping.{adds_one}
+use Rattle.store_rows.proofs.loading.load_each.Goals as goal
+
+pub entries-preserved : goal.entries-preserved
+entries-preserved g c =
+    let s = g.S.Store in
+    let old = c.args.trees.now in
+    let mid = c.entries.trees in
+    let new = c.put_one.new.trees in
+    let was = c.entries.invariant in
+    let did = c.in_ok-put_one.ensures in
+    let hash_key = c.args.hasher.now in
+    let seen = take c.entries.entry-index c.args.entries.now in
+    let one = c.entry-item.result in
+    let early : IsClean s new → IsClean s mid = λ clean. omega (arith, c.put_one.ensures.uncommitted.quiet.clean, clean) in
+    record {
+      tables = λ clean. tables_kept (s.view mid) (s.view new) c.put_one.ensures.uncommitted.schema (was.tables (early clean));
+      added = λ clean.
+          let low : c.entries.entry-index < length c.args.entries.now = omega arith in
+          let more : seen ++ one ∷ [] ≡ take (c.entries.entry-index + 1) c.args.entries.now =
+          ap (λ e. seen ++ e ∷ []) c.entry-item.is ∙ sym (take_more c.args.entries.now c.entries.entry-index one low) in
+          subst (λ given. AddsInStep hash_key given (trees_of s old) (trees_of s new)) more
+          (adds_one hash_key seen one (trees_of s old) (trees_of s mid) (trees_of s new) (did.added clean) (did.kept clean (was.unknown (early clean))) (was.added (early clean)));
+      unknown = λ clean. did.unknown clean (was.unknown (early clean));
+      uncommitted = uncommitted_then s old mid new was.uncommitted c.put_one.ensures.uncommitted;
+    }
+
+pub returns-in_err-put_one-clause-late : goal.returns-in_err-put_one-clause-late
+returns-in_err-put_one-clause-late g c is =
+    let low : c.entries.entry-index < length c.args.entries.now = omega arith in
+    (c.entries.entry-index, c.entry-item.result, low, sym c.entry-item.is, c.put_one.ensures.late (search rules))
+
+pub returns-in_err-put_one-clause-uncommitted : goal.returns-in_err-put_one-clause-uncommitted
+returns-in_err-put_one-clause-uncommitted g c =
+    uncommitted_then g.S.Store c.args.trees.now c.entries.trees c.put_one.new.trees c.entries.invariant.uncommitted c.put_one.ensures.uncommitted
