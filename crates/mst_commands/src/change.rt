@@ -1,6 +1,7 @@
 //! Writes that land together.
 ghost use Rattle.std.specs.Prelude.{◌≡◌, [], None, false, true, OnErr, OnOk};
 ghost use Rattle.store_file.specs.Logs.{Leaves, MakesAndFinds, StaysInErr, OnlyReads};
+ghost use Rattle.store_rows.specs.InStep.{StandsInStep, StaysInStep};
 ghost use Rattle.mst_commands.specs.Changing.{Lands, PutWaitsToo, WaitsToo};
 ghost use Rattle.mst_commands.specs.Imports.{Imports};
 
@@ -10,6 +11,7 @@ use sqlite_trees::store::Store;
 use std::alloc::Global;
 use std::collections::BTreeMap;
 use std::marker::Model;
+use store_file::format::HASH_KEY_LEN;
 use store_file::latest::{find, value_of};
 use store_file::log::Log;
 use store_file::table::Entries;
@@ -105,7 +107,7 @@ impl Change {
         self.push(alloc, key, None)
     }
 
-    /// Writes what waits, all or nothing, each write over what the file has, and returns whether it did: not if a line failed.
+    /// Writes what waits, in the log and in its tree, all or nothing, each write over what the file has, and returns whether it did: not if a line failed.
     ///
     /// # Errors
     ///
@@ -114,6 +116,7 @@ impl Change {
         self,
         alloc: Global,
         log: &mut Log<S>,
+        hash_key: &[u8; HASH_KEY_LEN],
         writer: &str,
         now: u64,
     ) -> Result<bool, Fault>
@@ -121,11 +124,14 @@ impl Change {
         ensures refused { StaysInErr S.Store log.old log.new result }
         // A crash leaves what it could leave before, or trees with all that waited.
         ensures crash { Leaves S.Store log.old log.new (Imports self.entries None writer.now now) }
+        ensures stands { StandsInStep S.Store hash_key.now log.old → StandsInStep S.Store hash_key.now log.new }
+        // They are in step if they were.
+        ensures left_in_step { Leaves S.Store log.old log.new (StaysInStep hash_key.now) }
     {
         if self.has_failed {
             return Ok(false);
         }
-        import(alloc, log, writer, now, self.entries, None)?;
+        import(alloc, log, hash_key, writer, now, self.entries, None)?;
         Ok(true)
     }
 }

@@ -1,4 +1,4 @@
-//! The commands of `mst` on one store's file that need no tree: each reads or writes the table.
+//! The commands of `mst` on one store's file that need no tree in memory: each reads the table of entries, or writes it and the tree in the file together.
 #![tactic(auto)]
 
 pub mod backup;

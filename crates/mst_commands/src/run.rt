@@ -1,6 +1,7 @@
 //! A command on an open store.
 ghost use Rattle.std.specs.Prelude.{◌≡◌, IfErr, OnOk};
-ghost use Rattle.store_file.specs.Logs.{OnlyReads, Writes};
+ghost use Rattle.store_file.specs.Logs.{Leaves, OnlyReads, Writes};
+ghost use Rattle.store_rows.specs.InStep.{StandsInStep, StaysInStep};
 ghost use Rattle.mst_commands.specs.Carries.{Carries, Compacts, ImportsInput, Puts, value_of as value_from};
 ghost use Rattle.mst_commands.specs.Faults.{IsDevice, StaysAtDevice};
 ghost use Rattle.mst_words.specs.declared.command.StoreCommand.TheVariants.{Table};
@@ -16,13 +17,15 @@ use crate::writing::{del, import, put_if, put_value};
 use mst_words::{Selection, TableCommand, Wanted};
 use sqlite_trees::store::Store;
 use std::io::{self, BufWriter, ErrorKind, Write};
+use store_file::format::HASH_KEY_LEN;
 use store_file::log::Log;
-use store_file::rows::compact;
+use store_rows::writing::compact;
 
 /// Writes the text that is given, or the value of standard input, if the key is as it is wanted.
 fn put_given<S: Store>(
     rt: &HostRuntime,
     log: &mut Log<S>,
+    hash_key: &[u8; HASH_KEY_LEN],
     writer: &str,
     key: &str,
     text: &str,
@@ -30,13 +33,15 @@ fn put_given<S: Store>(
     input: Input,
 ) -> Result<(), Fault>
     ensures carried { Writes S.Store log.old log.new result (Puts writer.now key.now (value_from input text.now) wanted.entry) }
+    ensures stands { StandsInStep S.Store hash_key.now log.old → StandsInStep S.Store hash_key.now log.new }
+    ensures crash { Leaves S.Store log.old log.new (StaysInStep hash_key.now) }
 {
     let alloc = rt.alloc();
     let value = value_of(alloc, text, input)?;
     let Some(wanted) = wanted else {
-        return put_value(alloc, log, writer, now(rt)?, key, value);
+        return put_value(alloc, log, hash_key, writer, now(rt)?, key, value);
     };
-    put_if(alloc, log, writer, now(rt)?, key, value, wanted)
+    put_if(alloc, log, hash_key, writer, now(rt)?, key, value, wanted)
 }
 
 /// Prints the value of a key.
@@ -167,12 +172,15 @@ fn print_csv<S: Store>(rt: &HostRuntime, log: &mut Log<S>, is_log: bool) -> Resu
 fn import_input<S: Store>(
     rt: &HostRuntime,
     log: &mut Log<S>,
+    hash_key: &[u8; HASH_KEY_LEN],
     writer: &str,
     is_log: bool,
     ahead: bool,
     input: Input,
 ) -> Result<(), Fault>
     ensures carried { Writes S.Store log.old log.new result (ImportsInput writer.now is_log ahead input) }
+    ensures stands { StandsInStep S.Store hash_key.now log.old → StandsInStep S.Store hash_key.now log.new }
+    ensures crash { Leaves S.Store log.old log.new (StaysInStep hash_key.now) }
 {
     let time = now(rt)?;
     let limit = if is_log {
@@ -181,34 +189,43 @@ fn import_input<S: Store>(
         None
     };
     let came = entries_in(rt.alloc(), input);
-    import(rt.alloc(), log, writer, time, came, limit)
+    import(rt.alloc(), log, hash_key, writer, time, came, limit)
 }
 
 /// Leaves one row for each key, and drops removals that are older than this many milliseconds.
 fn compact_older<S: Store>(
     rt: &HostRuntime,
     log: &mut Log<S>,
+    hash_key: &[u8; HASH_KEY_LEN],
     forget: Option<u64>,
 ) -> Result<(), Fault>
     ensures carried { Writes S.Store log.old log.new result (Compacts forget) }
+    ensures stands { StandsInStep S.Store hash_key.now log.old → StandsInStep S.Store hash_key.now log.new }
+    ensures crash { Leaves S.Store log.old log.new (StaysInStep hash_key.now) }
 {
     let before = match forget {
         Some(span) => now(rt)?.saturating_sub(span),
         None => 0,
     };
-    compact(rt.alloc(), log, before)?;
+    compact(rt.alloc(), log, hash_key, before)?;
     Ok(())
 }
 
-/// Runs a command on the log of a store that writes by this name, with what it read from standard input before.
+/// Runs a command on the log of a store that hashes under this key and writes by this name, with what it read from standard input before. What it writes
+/// to the log it writes to the tree.
 pub fn run<S: Store>(
     rt: &HostRuntime,
     log: &mut Log<S>,
+    hash_key: &[u8; HASH_KEY_LEN],
     writer: &str,
     command: TableCommand<'_>,
     input: Input,
 ) -> Result<(), Fault>
     ensures carried { Writes S.Store log.old log.new result (Carries (Table command.entry) writer.now input) }
+    // A log and its tree that were in step stay so, also where the command fails.
+    ensures stands { StandsInStep S.Store hash_key.now log.old → StandsInStep S.Store hash_key.now log.new }
+    // A crash leaves what it could leave before, or a log that is in step with its tree if it was.
+    ensures crash { Leaves S.Store log.old log.new (StaysInStep hash_key.now) }
 {
     match command {
         TableCommand::Put {
@@ -216,9 +233,9 @@ pub fn run<S: Store>(
             value,
             wanted,
             ..
-        } => put_given(rt, log, writer, key, value, wanted, input),
+        } => put_given(rt, log, hash_key, writer, key, value, wanted, input),
         TableCommand::Get { key } => unless_gone(print_value(rt, log, key)),
-        TableCommand::Del { key } => del(rt.alloc(), log, writer, now(rt)?, key),
+        TableCommand::Del { key } => del(rt.alloc(), log, hash_key, writer, now(rt)?, key),
         TableCommand::List { selection, json } => {
             unless_gone(print_list(rt, log, selection, json))
         }
@@ -227,9 +244,9 @@ pub fn run<S: Store>(
         TableCommand::Status { json } => print_status(rt, log, writer, json),
         TableCommand::Check { json } => print_check(rt, log, writer, json),
         TableCommand::Import { is_log, ahead } => {
-            import_input(rt, log, writer, is_log, ahead, input)
+            import_input(rt, log, hash_key, writer, is_log, ahead, input)
         }
         TableCommand::Export { is_log } => unless_gone(print_csv(rt, log, is_log)),
-        TableCommand::Compact { forget } => compact_older(rt, log, forget),
+        TableCommand::Compact { forget } => compact_older(rt, log, hash_key, forget),
     }
 }

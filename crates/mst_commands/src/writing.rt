@@ -1,10 +1,13 @@
-//! The commands that write.
-ghost use Rattle.std.specs.Prelude.{◌≡◌, ◌≢◌, ◌≤◌, ◌<◌, ◌⊎◌, length, filter, All, IfOk, IfErr, OnOk, true, false};
+//! The commands that write: each keeps the log and the tree of its latest registers in step.
+ghost use Rattle.std.specs.Prelude.{◌≡◌, ◌≢◌, ◌≤◌, ◌<◌, ◌⊎◌, length, filter, All, IfOk, IfErr, IsErrOf, OnOk, true, false};
 ghost use Rattle.key_order.specs.Text.{text_order};
 ghost use Rattle.key_order.specs.Map.{IsMap};
+ghost use Rattle.store_file.specs.Faults.{IsUnwritten};
 ghost use Rattle.store_file.specs.Latest.{IsThere};
-ghost use Rattle.store_file.specs.Logs.{trees_of, Finds, Shows, Refuses, OnlyReads, Writes};
+ghost use Rattle.store_file.specs.Logs.{trees_of, Finds, Leaves, Shows, Refuses, OnlyReads, Writes};
+ghost use Rattle.store_file.specs.Registers.{HaveLateTime};
 ghost use Rattle.store_file.specs.Values.{bytes_of_value};
+ghost use Rattle.store_rows.specs.InStep.{AddsInStep, StandsInStep, StaysInStep};
 ghost use Rattle.mst_commands.specs.Faults.{IsAhead, IsTooLong};
 ghost use Rattle.mst_commands.specs.Writes.{is_met as says_it, is_text as is_same_text, IsMet, WritesBy, WritesIf};
 ghost use Rattle.mst_commands.specs.Malformed.{IsCommandFailure};
@@ -17,11 +20,15 @@ use mst_words::Wanted;
 use sqlite_trees::store::Store;
 use std::alloc::{AllocError, Global};
 use std::io::Read;
-use store_file::latest::{find, put, remove, value_of};
+use store_file::format::HASH_KEY_LEN;
+use store_file::latest::{find, value_of};
 use store_file::log::Log;
 use store_file::rows::{latest_rows, read_latest, register_in};
-use store_file::table::{Entries, add_all};
+use store_file::table::Entries;
 use store_file::{Register, StoreFault, Value};
+use store_rows::latest::{put, remove};
+use store_rows::loading::add_many;
+use store_rows::writing::add_all;
 
 /// Refuses a key or a value of more than 1 MiB.
 ///
@@ -58,7 +65,7 @@ pub fn read_bytes<R: Read + Drop>(alloc: Global, from: R) -> Result<Vec<u8>, Fau
     Ok(bytes)
 }
 
-/// Writes a value under a key.
+/// Writes a value under a key, in the log and in its tree.
 ///
 /// # Errors
 ///
@@ -66,12 +73,16 @@ pub fn read_bytes<R: Read + Drop>(alloc: Global, from: R) -> Result<Vec<u8>, Fau
 pub fn put_value<S: Store>(
     alloc: Global,
     log: &mut Log<S>,
+    hash_key: &[u8; HASH_KEY_LEN],
     writer: &str,
     now: u64,
     key: &str,
     value: Value,
 ) -> Result<(), Fault>
     ensures written { Writes S.Store log.old log.new result (WritesBy key.now writer.now now (Some value)) }
+    ensures stands { StandsInStep S.Store hash_key.now log.old → StandsInStep S.Store hash_key.now log.new }
+    // A crash leaves what it could leave before, or a log that is in step with its tree if it was.
+    ensures crash { Leaves S.Store log.old log.new (StaysInStep hash_key.now) }
     // A key or a value that is too long is refused, and nothing is written.
     ensures fits { OnOk result (length key.now ≤ MOST × length (bytes_of_value value) ≤ MOST) }
     ensures long { IfErr result (λ why. IsTooLong why → MOST < length key.now ⊎ MOST < length (bytes_of_value value)) }
@@ -81,7 +92,8 @@ pub fn put_value<S: Store>(
     within(key.as_bytes(), "the key")?;
     within(value.as_bytes(), "the value")?;
     let writer = String::from_str(alloc, writer)?;
-    put(alloc, log, writer, now, key, value)?;
+    let key = String::from_str(alloc, key)?;
+    put(alloc, log, hash_key, writer, now, key, value)?;
     Ok(())
 }
 
@@ -136,6 +148,7 @@ fn expect<S: Store>(
 pub fn put_if<S: Store>(
     alloc: Global,
     log: &mut Log<S>,
+    hash_key: &[u8; HASH_KEY_LEN],
     writer: &str,
     now: u64,
     key: &str,
@@ -143,14 +156,17 @@ pub fn put_if<S: Store>(
     wanted: Wanted<'_>,
 ) -> Result<(), Fault>
     ensures written { Writes S.Store log.old log.new result (WritesIf wanted.entry key.now writer.now now (Some value)) }
+    ensures stands { StandsInStep S.Store hash_key.now log.old → StandsInStep S.Store hash_key.now log.new }
+    // A crash leaves what it could leave before, or a log that is in step with its tree if it was.
+    ensures crash { Leaves S.Store log.old log.new (StaysInStep hash_key.now) }
     ensures unmet { Refuses S.Store log.old log.new result Fault.Unmet (IsMet wanted.entry key.now false) }
     ensures faults { IfErr result (λ why. why ≢ Fault.Unmet → ¬ IsTooLong why → IsCommandFailure why) }
 {
     expect(alloc, log, key, wanted)?;
-    put_value(alloc, log, writer, now, key, value)
+    put_value(alloc, log, hash_key, writer, now, key, value)
 }
 
-/// Removes a key.
+/// Removes a key: the log and its tree have the removal then.
 ///
 /// # Errors
 ///
@@ -158,11 +174,15 @@ pub fn put_if<S: Store>(
 pub fn del<S: Store>(
     alloc: Global,
     log: &mut Log<S>,
+    hash_key: &[u8; HASH_KEY_LEN],
     writer: &str,
     now: u64,
     key: &str,
 ) -> Result<(), Fault>
     ensures written { Writes S.Store log.old log.new result (WritesBy key.now writer.now now None) }
+    ensures stands { StandsInStep S.Store hash_key.now log.old → StandsInStep S.Store hash_key.now log.new }
+    // A crash leaves what it could leave before, or a log that is in step with its tree if it was.
+    ensures crash { Leaves S.Store log.old log.new (StaysInStep hash_key.now) }
     ensures there { Shows S.Store log.old log.new result (λ trees. IsThere trees key.now true) }
     // Where the key isn't there, nothing is written.
     ensures absent { Refuses S.Store log.old log.new result Fault.NoKey (λ trees. IsThere trees key.now false) }
@@ -170,7 +190,8 @@ pub fn del<S: Store>(
     ensures faults { IfErr result (λ why. why ≢ Fault.NoKey → IsCommandFailure why) }
 {
     let writer = String::from_str(alloc, writer)?;
-    let there = remove(alloc, log, writer, now, key)?;
+    let key = String::from_str(alloc, key)?;
+    let there = remove(alloc, log, hash_key, writer, now, key)?;
     if there { Ok(()) } else { Err(Fault::NoKey) }
 }
 
@@ -276,7 +297,7 @@ fn not_above(alloc: Global, entries: &[(String, Register)], latest: u64) -> Resu
     Ok(())
 }
 
-/// The entries of an import that are to be added, of those that came.
+/// The entries of an import that are to be added, of those that came; and how many keys the log has.
 fn entries_to_add<S: Store>(
     alloc: Global,
     log: &mut Log<S>,
@@ -284,23 +305,53 @@ fn entries_to_add<S: Store>(
     now: u64,
     came: Entries,
     limit: Option<u64>,
-) -> Result<Entries, Fault>
-    ensures added { Finds S.Store log.old log.new result (λ trees added. AddsOf limit writer.now now trees came.items added.items) }
+) -> Result<(Entries, usize), Fault>
+    ensures added { Finds S.Store log.old log.new result (λ trees added. AddsOf limit writer.now now trees came.items added.0.items) }
     ensures reads { OnlyReads S.Store log.old log.new result }
     ensures faults { IfErr result (λ why. ¬ IsAhead why → IsCommandFailure why) }
 {
     let rows = read_latest(alloc, log)?;
+    let keys = rows.len();
     let mut last = latest_rows(came);
     let Some(latest) = limit else {
-        return all_dated(alloc, &rows, writer, now, last);
+        let dated = all_dated(alloc, &rows, writer, now, last)?;
+        return Ok((dated, keys));
     };
     not_above(alloc, &last, latest)?;
     retain_news(&mut last, &rows);
-    Ok(last)
+    Ok((last, keys))
 }
 
-/// Writes the entries of an import, all or none: the last of each key; and of a log, where `limit` has the latest time that an entry may have,
-/// those that are later than what the store has.
+/// How many keys there are to an entry where loading the tree anew takes no longer than writing each key to it.
+const KEYS_TO_AN_ENTRY: usize = 8;
+
+/// Adds entries to a log of about so many keys, and to its tree, all or none: by [`add_all`], or by [`add_many`] if they are many beside the keys. It takes
+/// the time of that.
+///
+/// # Errors
+///
+/// Those of [`add_all`].
+pub fn add_beside<S: Store>(
+    alloc: Global,
+    log: &mut Log<S>,
+    hash_key: &[u8; HASH_KEY_LEN],
+    entries: &[(String, Register)],
+    keys: usize,
+) -> Result<(), StoreFault>
+    ensures added { Writes S.Store log.old log.new result (AddsInStep hash_key.now entries.now) }
+    ensures stands { StandsInStep S.Store hash_key.now log.old → StandsInStep S.Store hash_key.now log.new }
+    ensures late { IsErrOf result StoreFault.Time → HaveLateTime entries.now }
+    ensures faults { IfErr result IsUnwritten }
+{
+    if entries.len() < keys / KEYS_TO_AN_ENTRY {
+        add_all(alloc, log, hash_key, entries)
+    } else {
+        add_many(alloc, log, hash_key, entries)
+    }
+}
+
+/// Writes the entries of an import, in the log and in its tree, all or none: the last of each key; and of a log, where `limit` has the latest time that an
+/// entry may have, those that are later than what the store has.
 ///
 /// # Errors
 ///
@@ -308,16 +359,20 @@ fn entries_to_add<S: Store>(
 pub fn import<S: Store>(
     alloc: Global,
     log: &mut Log<S>,
+    hash_key: &[u8; HASH_KEY_LEN],
     writer: &str,
     now: u64,
     came: Entries,
     limit: Option<u64>,
 ) -> Result<(), Fault>
     ensures written { Writes S.Store log.old log.new result (Imports came.items limit writer.now now) }
+    ensures stands { StandsInStep S.Store hash_key.now log.old → StandsInStep S.Store hash_key.now log.new }
+    // A crash leaves what it could leave before, or a log that is in step with its tree if it was.
+    ensures crash { Leaves S.Store log.old log.new (StaysInStep hash_key.now) }
     // But for an entry of a log that is too late it fails only if memory or the store does.
     ensures faults { IfErr result (λ why. ¬ IsAhead why → IsCommandFailure why) }
 {
     let added = entries_to_add(alloc, log, writer, now, came, limit)?;
-    add_all(alloc, log, &added)?;
+    add_beside(alloc, log, hash_key, &added.0, added.1)?;
     Ok(())
 }

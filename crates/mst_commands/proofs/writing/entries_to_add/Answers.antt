@@ -1,5 +1,4 @@
 use Rattle.std.proofs.Common.{sym, subst}
-use Rattle.store_file.proofs.Outcomes.{if_ok}
 use Rattle.mst_commands.specs.Imports.{AreAdded}
 use Rattle.mst_commands.proofs.writing.entries_to_add.Goals as goal
 
@@ -9,9 +8,8 @@ returns-in_default-clause-added g c clean =
     let rows = c.in_ok-rows.rows.items in
     let last = c.latest_rows-last.result.items in
     let latest = c.in_ok-rows.ensures.latest clean in
-    if_ok c.all_dated.result _ _ (λ all dated.
-    (rows, last, latest, c.latest_rows-last.ensures, subst (λ log. AreAdded log c.args.writer.now c.args.now rows last all.items) (sym c.in_default.is) dated))
-    ((rw c.deref.ensures.value at c.all_dated.ensures.dated) latest.2.ascending)
+    let dated = (rw c.deref.ensures.value at c.in_ok-dated.ensures.dated) latest.2.ascending in
+    (rows, last, latest, c.latest_rows-last.ensures, subst (λ log. AreAdded log c.args.writer.now c.args.now rows last c.in_ok-dated.dated.items) (sym c.in_default.is) dated)
 
 -- of a log
 pub returns-clause-added : goal.returns-clause-added
