@@ -8,3 +8,4 @@ pub mod Messages
 pub mod Exchanged
 pub mod Bringing
 pub mod Asked
+pub mod NewsIn

@@ -15,7 +15,7 @@ const BY_ROWS: u8 = 0;
 #[derive(Drop)]
 pub struct Counting<S> {
     alloc: Global,
-    side: S,
+    pub(crate) side: S,
     rows: u64,
 }
 

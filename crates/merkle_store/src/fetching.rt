@@ -9,6 +9,7 @@ ghost use Rattle.merkle_store.specs.Sessions.{AsksByRows, CatchUpBegins, Takes};
 
 use crate::fetch_fault::{FetchFault, Untaken};
 use crate::framing::{Watch, receive, send};
+use crate::pausing::PausingAsker;
 use crate::session_fault::{SessionFault, untaken};
 use crate::traffic::Traffic;
 use crate::wire::WireFault;
@@ -54,23 +55,29 @@ pub struct Fetched {
     pub traffic: Traffic,
 }
 
-/// Sends a message, and takes the reply.
-fn ask<R: Read, W: Write, P: Watch>(
+/// Sends a message, and takes the reply. Nothing is asked of the side until that has come.
+fn ask<S: PausingAsker, R: Read, W: Write, P: Watch>(
     alloc: Global,
+    side: &mut S,
     from: &mut R,
     to: &mut W,
     most: u64,
     watch: &mut P,
     message: &[u8],
-) -> Result<Vec<u8>, WireFault>
+) -> Result<Vec<u8>, SessionFault<WireFault, S::Error>>
     ensures sent { OnOk result (Appends (W.contents to.old) (W.contents to.new) (frame_of message.now)) }
     ensures came { IfOk result (λ reply. Consumes (R.remaining from.old) (R.remaining from.new) (frame_of reply.items)) }
     ensures fits { IfOk result (λ reply. length reply.items ≤ most) }
+    ensures same { S.is_sound side.new → side.new ≡ side.old }
+    ensures steady { S.is_sound side.new → S.is_sound side.old }
 {
+    if let Err(error) = side.pause() {
+        return Err(SessionFault::Side(error));
+    }
     send(alloc, to, message)?;
     match receive(alloc, from, most, watch)? {
         Some(reply) => Ok(reply),
-        None => Err(WireFault::Cut),
+        None => Err(SessionFault::Session(WireFault::Cut)),
     }
 }
 
@@ -155,7 +162,7 @@ fn message_for<S: AskingReplica<16, String, Register, SipHasher>>(
 }
 
 /// The entries of a peer that a side lacks, and what went over the wire.
-fn entries_of_peer<S: AskingReplica<16, String, Register, SipHasher>, R: Read, W: Write, P: Watch>(
+fn entries_of_peer<S: PausingAsker, R: Read, W: Write, P: Watch>(
     alloc: Global,
     side: &mut S,
     from: &mut R,
@@ -175,7 +182,7 @@ fn entries_of_peer<S: AskingReplica<16, String, Register, SipHasher>, R: Read, W
     let mut deltas = Deltas::new();
     let mut traffic = Traffic::none();
     'messages: for _ in 0..MOST_MESSAGES {
-        let reply = ask(alloc, from, to, most, watch, &message)?;
+        let reply = ask(alloc, side, from, to, most, watch, &message)?;
         traffic = counted(&traffic, message.len(), reply.len())?;
         match deltas.hear(alloc, reply)? {
             Heard::Again(question) => message = question,
@@ -255,26 +262,20 @@ fn unheard(fault: WireFault) -> FetchFault {
 }
 
 /// What a peer has that a side lacks, or has with another register, all or none, for a side that is kept anywhere, such as an
-/// [`EntryReplica`](crate::rows::EntryReplica). The rows stay. If a reply has more bytes than the terms say, or more entries come, or one that isn't
-/// taken, it fails. Besides the catch-up it takes time linear in the entries that came. [`news_of`](crate::news::news_of) finds those that are later.
+/// [`EntryReplica`](crate::rows::EntryReplica). The rows stay. The side pauses before each message is sent, until the reply has come. If a reply has more
+/// bytes than the terms say, or more entries come, or one that isn't taken, it fails. Besides the catch-up it takes time linear in the entries that came.
+/// [`news_in`](crate::news::news_in) finds those that are later.
 ///
 /// ```rust crates/mst/src/peers.rt
 /// let terms = terms_of(rt, limits)?;
 /// let mut lines = lines_of(rt);
-/// let fetched = fetch(
-///     rt.alloc(),
-///     replica,
-///     &terms,
-///     from,
-///     &mut rt.stdout(),
-///     &mut lines,
-/// );
+/// let fetched = fetch(rt.alloc(), side, &terms, from, &mut rt.stdout(), &mut lines);
 /// ```
 ///
 /// # Errors
 ///
 /// [`SessionFault`] of a [`FetchFault`].
-pub fn fetch<S: AskingReplica<16, String, Register, SipHasher>, R: Read, W: Write, P: Watch>(
+pub fn fetch<S: PausingAsker, R: Read, W: Write, P: Watch>(
     alloc: Global,
     side: &mut S,
     terms: &Terms,
@@ -285,6 +286,7 @@ pub fn fetch<S: AskingReplica<16, String, Register, SipHasher>, R: Read, W: Writ
     ensures fetched { S.is_sound side.new → IfOk result (HasFetched terms.now (S.whole side.old)
         (W.contents to.old, R.remaining from.old) (W.contents to.new, R.remaining from.new)) }
     ensures few { IfOk result (λ fetched. IsAtMost terms.now.most_entries (length fetched.came.items)) }
+    ensures fit { IfOk result (λ fetched. AreFit terms.now.latest fetched.came.items) }
     ensures kept { S.is_sound side.new → S.kept side.new ≡ S.kept side.old }
     ensures steady { S.is_sound side.new → S.is_sound side.old }
 {

@@ -1,6 +1,6 @@
 //! Laws over the definitions alone. Each function has no effect and takes no memory.
 ghost use Rattle.merkle_store.specs.Kept.{AddedAreJoined, InStepTellFound};
-ghost use Rattle.merkle_store.specs.News.{NewsBringAll};
+ghost use Rattle.merkle_store.specs.News.{NewsBringAll, NewsInAreLater};
 ghost use Rattle.merkle_store.specs.Sessions.{ServedBring};
 
 use merkle_delta::laws::what_is_told_is_heard;
@@ -32,4 +32,9 @@ pub fn what_is_added_is_joined()
 /// too it has the join of its rows with all that came.
 pub fn news_bring_all_that_came()
     ensures { NewsBringAll }
+{}
+
+/// What [`news_in`](crate::news::news_in) finds later than a log is what is later than the rows of that log in memory.
+pub fn news_in_a_log_are_later_than_its_rows()
+    ensures { NewsInAreLater }
 {}

@@ -7,6 +7,7 @@ pub mod fetching;
 pub mod framing;
 pub mod laws;
 pub mod news;
+pub mod pausing;
 pub mod reopening;
 pub mod rows;
 pub mod serving;

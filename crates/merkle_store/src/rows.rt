@@ -39,9 +39,8 @@ fn replica_of(
 
 /// The replica of the entries that the file holds, under this hash key. It takes memory linear in the table, and the time of a sort of its rows.
 ///
-/// ```rust crates/mst/src/sessions.rt
-/// let note = recognise(rt.alloc(), log)?;
-/// let replica = read_replica(rt.alloc(), log, &note.hash_key)?;
+/// ```rust crates/store_side_tests/src/random_logs.rt
+/// let mut replica = read_replica(alloc, &mut log, &HASH_KEY)?;
 /// ```
 ///
 /// # Errors

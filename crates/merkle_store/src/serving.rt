@@ -4,12 +4,13 @@ ghost use Rattle.merkle_tree_theory.specs.State.{SameSettings};
 ghost use Rattle.merkle_store.specs.Sessions.{ServesPeer, AnswersMessage};
 
 use crate::framing::{ANSWER_BYTES, Watch, receive, send};
+use crate::pausing::PausingSide;
 use crate::session_fault::{SessionFault, unanswered};
 use crate::traffic::Traffic;
 use crate::wire::WireFault;
 use merkle_delta::{read_message, tell};
 use merkle_digest::SipHasher;
-use merkle_wire::{AnswerError, KeptError, KeptReplica, KeptSide, answer_by, refusal};
+use merkle_wire::{AnswerError, KeptError, KeptSide, answer_by, refusal};
 use std::alloc::Global;
 use std::io::{Read, Write};
 use store_file::Register;
@@ -46,15 +47,27 @@ fn answer<S: KeptSide<16, String, Register, SipHasher, ()>>(
     }
 }
 
+/// Tells a side that nothing is asked of it until the next message has come.
+fn pause<S: PausingSide>(side: &mut S) -> Result<(), SessionFault<WireFault, S::Error>>
+    ensures same { S.is_sound side.new → side.new ≡ side.old }
+    ensures steady { S.is_sound side.new → S.is_sound side.old }
+{
+    match side.pause() {
+        Ok(()) => Ok(()),
+        Err(error) => Err(SessionFault::Side(error)),
+    }
+}
+
 /// Answers a peer until it sends a message of no bytes, or its messages end, by a side that is kept anywhere, such as an
 /// [`EntryReplica`](crate::rows::EntryReplica). Each message has at most `most` bytes; an answer ends with the entry by which it has
-/// [`ANSWER_BYTES`], and the peer asks for the rest. The rows stay. An answer takes the time and the memory of [`answer_by`], and of [`tell`] for a
+/// [`ANSWER_BYTES`], and the peer asks for the rest. The rows stay. The side pauses before each reply is sent, until the next message has come, so that a
+/// slow peer keeps nobody waiting who needs what the side has. An answer takes the time and the memory of [`answer_by`], and of [`tell`] for a
 /// message with checksums; nothing is kept between messages.
 ///
 /// ```rust crates/mst/src/peers.rt
 /// let served = serve(
 ///     rt.alloc(),
-///     replica,
+///     side,
 ///     MOST_BYTES,
 ///     from,
 ///     &mut rt.stdout(),
@@ -65,7 +78,7 @@ fn answer<S: KeptSide<16, String, Register, SipHasher, ()>>(
 /// # Errors
 ///
 /// [`SessionFault`] of a [`WireFault`]: the peer is told that it is refused, where the output still takes that.
-pub fn serve<S: KeptReplica<16, String, Register, SipHasher>, R: Read, W: Write, P: Watch>(
+pub fn serve<S: PausingSide, R: Read, W: Write, P: Watch>(
     alloc: Global,
     side: &mut S,
     most: u64,
@@ -96,10 +109,12 @@ pub fn serve<S: KeptReplica<16, String, Register, SipHasher>, R: Read, W: Write,
         match answer(alloc, side, &message) {
             Ok(reply) => {
                 side.has_its_tree();
+                pause(side)?;
                 send(alloc, to, &reply)?;
                 traffic = traffic.with(reply.len(), message.len());
             }
             Err(error) => {
+                let _ = pause(side);
                 let _ = send(alloc, to, &refusal(alloc)?);
                 return Err(unanswered(error));
             }

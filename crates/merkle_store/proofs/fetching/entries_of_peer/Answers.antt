@@ -1,4 +1,4 @@
-use Rattle.std.proofs.Common.{◌≡◌, subst, sym, ◌∙◌}
+use Rattle.std.proofs.Common.{◌≡◌, subst, sym, ap, ◌∙◌}
 use Rattle.std.specs.Io.KnownBytes.{Appends}
 use Rattle.merkle_replica.specs.Contents.{side}
 use Rattle.merkle_wire.specs.Next.{IsNext}
@@ -35,11 +35,13 @@ pub returns-in-Came-clause-came : goal.returns-in-Came-clause-came
 returns-in-Came-clause-came g c = λ sound.
     let inv = c.messages.invariant in
     let local = g.S.AskingReplica.whole c.args.side.now in
-    let old = c.take.ensures.steady sound in
+    let still = c.take.ensures.steady sound in
+    let old = c.ask.ensures.steady still in
+    let same = ap g.S.KeptTree.kept (c.ask.ensures.same still) in
     let session = c.messages.session in
     let is_next = IsNext entry_laws 16 text_key_encoding register_encoding in
     let taken = subst (λ n. is_next (side local) session c.deref-in-Reply.result.now n) c.in-Came.is
-    (of_side (g.S.KeptTree.kept c.messages.side).digests local (inv.rows old)
+    (of_side (g.S.KeptTree.kept c.ask.new.side).digests local (subst (λ k. AsksByRows k.digests local) (sym same) (inv.rows old))
     (λ own. is_next own session c.deref-in-Reply.result.now c.in_ok-next-in-Reply.field-0) (c.in_ok-next-in-Reply.ensures.next sound)) in
     comes_to local c.args.most (g.W.Write.contents c.args.to.now, g.R.Read.remaining c.args.from.now) (g.W.Write.contents c.messages.to, g.R.Read.remaining c.messages.from)
     (g.W.Write.contents c.ask.new.to, g.R.Read.remaining c.ask.new.from) session c.messages.deltas c.messages.message c.in_ok-reply.reply.items (inv.come old)
@@ -59,25 +61,31 @@ messages-preserved g c =
     let after : Streams = (g.W.Write.contents c.ask.new.to, g.R.Read.remaining c.ask.new.from) in
     let reply = c.in_ok-reply.reply.items in
     let is_next = IsNext entry_laws 16 text_key_encoding register_encoding in
+    let was = c.ask.ensures.steady in
+    let as_before : (still : g.S.KeptTree.is_sound c.ask.new.side) → g.S.KeptTree.kept c.ask.new.side ≡ g.S.KeptTree.kept c.messages.side =
+    λ still. ap g.S.KeptTree.kept (c.ask.ensures.same still) in
+    let rows : g.S.KeptTree.is_sound c.ask.new.side → AsksByRows (g.S.KeptTree.kept c.ask.new.side).digests local =
+    λ still. subst (λ k. AsksByRows k.digests local) (sym (as_before still)) (inv.rows (was still)) in
     let sent = subst (λ m. Appends (g.W.Write.contents c.messages.to) (g.W.Write.contents c.ask.new.to) (frame_of m)) c.deref.ensures.value c.in_ok-reply.ensures.sent in
     elim c.match-branch-5.branch [
       | in-Again w ↦ rw (w.side-is, w.session-is, w.message-is, w.deltas-is) (record {
-        come = λ sound. asks_alone local most before mid after session c.messages.deltas c.messages.message reply (inv.come sound) sent c.in_ok-reply.ensures.came c.in_ok-reply.ensures.fits
+        come = λ sound. asks_alone local most before mid after session c.messages.deltas c.messages.message reply (inv.come (was sound)) sent c.in_ok-reply.ensures.came c.in_ok-reply.ensures.fits
             w.in-Again.question _ (subst (IsHeard c.messages.deltas reply) w.in-Again.is c.in_ok-question.ensures.heard) c.in_ok-question.ensures.none_told;
-        rows = inv.rows;
-        kept = inv.kept;
-        steady = inv.steady;
+        rows = rows;
+        kept = λ still. as_before still ∙ inv.kept (was still);
+        steady = λ still. inv.steady (was still);
       })
       | in-Reply+in_ok-next-in-Reply+in-Ask+in_ok-message-in-Ask w ↦
           let next = Ask w.in-Ask.next w.in-Ask.question in
           let taken = w.message_for.ensures.steady in
-          let old : g.S.KeptTree.is_sound w.message_for.new.side → g.S.KeptTree.is_sound c.messages.side = λ sound. w.take.ensures.steady (taken sound) in
+          let still : g.S.KeptTree.is_sound w.message_for.new.side → g.S.KeptTree.is_sound c.ask.new.side = λ sound. w.take.ensures.steady (taken sound) in
+          let old : g.S.KeptTree.is_sound w.message_for.new.side → g.S.KeptTree.is_sound c.messages.side = λ sound. was (still sound) in
           let same : (sound : g.S.KeptTree.is_sound w.message_for.new.side) → g.S.KeptTree.kept w.message_for.new.side ≡ g.S.KeptTree.kept c.messages.side =
-          λ sound. w.message_for.ensures.kept sound ∙ w.take.ensures.kept (taken sound) in
+          λ sound. w.message_for.ensures.kept sound ∙ w.take.ensures.kept (taken sound) ∙ as_before (still sound) in
           let is : g.S.KeptTree.is_sound w.message_for.new.side → is_next (side local) session w.in-Reply.plain.items next = λ sound.
           subst (λ r. is_next (side local) session r next) w.deref-in-Reply.ensures.value
           (subst (λ n. is_next (side local) session w.deref-in-Reply.result.now n) w.in-Ask.is
-          (of_side (g.S.KeptTree.kept c.messages.side).digests local (inv.rows (old sound)) (λ own. is_next own session w.deref-in-Reply.result.now w.in_ok-next-in-Reply.field-0)
+          (of_side (g.S.KeptTree.kept c.ask.new.side).digests local (rows (still sound)) (λ own. is_next own session w.deref-in-Reply.result.now w.in_ok-next-in-Reply.field-0)
           (w.in_ok-next-in-Reply.ensures.next (taken sound)))) in
           rw (w.side-is, w.session-is, w.message-is, w.deltas-is) (record {
             come = λ sound. goes_on local most before mid after session c.messages.deltas c.messages.message reply (inv.come (old sound)) sent c.in_ok-reply.ensures.came

@@ -1,4 +1,4 @@
-use Rattle.std.proofs.Common.{◌≡◌, rules, subst, ◌∙◌}
+use Rattle.std.proofs.Common.{◌≡◌, rules, subst, sym, ◌∙◌}
 use Rattle.std.specs.Io.KnownBytes.{Appends}
 use Rattle.key_order.specs.Text.{text_order}
 use Rattle.merkle_digest.specs.SipDigests.{text_digest}
@@ -17,6 +17,7 @@ pub messages-preserved : goal.messages-preserved
 messages-preserved g c =
     let inv = c.messages.invariant in
     let new = c.answer.ensures in
+    let paused = c.pause.ensures in
     let Sound = g.S.KeptSide.is_sound c.answer.new.side in
     let local = g.S.KeptSide.contents c.args.side.now tt in
     let before = g.S.KeptSide.contents c.messages.side tt in
@@ -30,7 +31,8 @@ messages-preserved g c =
       (new.settings sound).2 ∙ (inv.settings (new.steady sound)).2,
     ) in
     record {
-      served = λ sound.
+      served = λ still.
+          let sound = paused.steady still in
           let old = new.steady sound in
           let replies : IsToldReply entry_laws 16 text_key_encoding register_encoding local message reply = record {
             before = before;
@@ -45,7 +47,7 @@ messages-preserved g c =
           (g.W.Write.contents c.send.new.out, g.R.Read.remaining c.receive.new.from) message reply (inv.served old) replies (search rules)
           (subst (HasCome (g.R.Read.remaining c.messages.from) (g.R.Read.remaining c.receive.new.from)) c.in-Some.is c.in_ok-message.ensures.came)
           (subst (λ m. Appends (g.W.Write.contents c.messages.to) (g.W.Write.contents c.send.new.out) (frame_of m)) c.deref-in-Ok.ensures.value c.in_ok-send-in-Ok.ensures.sent);
-      rows = rows;
-      settings = settings;
-      steady = λ sound. inv.steady (new.steady sound);
+      rows = λ still. subst (λ s. (g.S.KeptSide.contents s tt).rows ≡ local.rows) (sym (paused.same still)) (rows (paused.steady still));
+      settings = λ still. subst (λ s. SameSettings local.tree (g.S.KeptSide.contents s tt).tree) (sym (paused.same still)) (settings (paused.steady still));
+      steady = λ still. inv.steady (new.steady (paused.steady still));
     }
