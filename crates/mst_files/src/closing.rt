@@ -1,5 +1,6 @@
 //! Closes the file of a store.
 use crate::fault::FileFault;
+use sqlite_disk::Files;
 use sqlite_std_file::File;
 use sqlite_store::FileStore;
 use sqlite_trees::error::StoreError;
@@ -37,10 +38,16 @@ impl Closing for Log<FileTrees> {
     }
 
     fn close_without_log(self, rt: &HostRuntime, name: &str) {
-        if let Ok(_files) = store_file::close_files(self.into_trees()) {
+        if let Ok(_files) = files_of(self) {
             let _ = fs::remove_file(rt, name);
         }
     }
+}
+
+/// Copies the log into the file, and returns both files, which no other process has until they are dropped.
+pub(crate) fn files_of(log: Log<FileTrees>) -> Result<Files<Unsure<File>>, FileFault> {
+    let (files, _is_store) = store_file::file::close_any(log.into_trees())?;
+    Ok(files)
 }
 
 /// Closes the file of a log after what was done on it. Where both failed, the reason is that of the first.

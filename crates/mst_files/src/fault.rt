@@ -5,6 +5,8 @@ use std::alloc::AllocError;
 use std::io::ErrorKind;
 use std::{fmt, io};
 use store_file::StoreFault;
+use store_file::format::FORMAT;
+use store_file::former::FORMER_FORMAT;
 
 /// Why the file of a store isn't opened, closed or made, or why a command on it failed.
 #[derive(Debug, Drop)]
@@ -53,6 +55,10 @@ impl From<io::Error> for FileFault {
 impl fmt::Display for FileFault {
     fn fmt<W: fmt::Write>(&self, f: &mut fmt::Formatter<W>) -> fmt::Result {
         match self {
+            FileFault::Command(Fault::Store(StoreFault::Format(FORMER_FORMAT))) => write!(
+                f,
+                "the file is a store in format {FORMER_FORMAT}: mst rebuild FILE brings it into format {FORMAT}"
+            ),
             FileFault::Command(fault) => write!(f, "{fault}"),
             FileFault::Path(OpenError::Io(error)) if error.kind() == ErrorKind::Unsupported =>
                 f.write_str("the file, or its log beside it, isn't a regular file with one name"),

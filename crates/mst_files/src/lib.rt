@@ -6,3 +6,4 @@ pub mod fault;
 mod look;
 pub mod making;
 pub mod opening;
+pub mod rebuilding;

@@ -8,8 +8,10 @@ use std::alloc::Global;
 use std::fs::{self, File};
 use std::io::{self, Read};
 use std::os::unix::fs::FileExt;
-use store_file::StoreFault;
-use store_file::catalog::{ABOUT_SQL, ENTRIES_SQL, FORMER_ABOUT_SQL, FORMER_ENTRIES_SQL};
+use store_file::catalog::{
+    ABOUT_SQL, CELLS_SQL, ENTRIES_SQL, FORMER_ABOUT_SQL, FORMER_ENTRIES_SQL,
+};
+use store_file::{StoreFault, former};
 
 /// The longest page of a SQLite database.
 const LONGEST_PAGE: usize = 65_536;
@@ -72,16 +74,20 @@ fn end_of_row(page: &[u8], start: usize) -> usize {
     start.saturating_add(length).saturating_add(bytes)
 }
 
-/// Whether one of the two rows of a list of tables, the first of which has the number 0, ends with how its table is made.
-fn is_made_so(page: &[u8], number: usize, sql: &str) -> bool {
-    let place = if number == 0 { 108 } else { 110 };
+/// Whether the row of a list of tables whose place stands here ends with how its table is made.
+fn is_made_so(page: &[u8], place: usize, sql: &str) -> bool {
     let end = end_of_row(page, pair_at(page, place));
     end <= page.len() && page[..end].ends_with(sql.as_bytes())
 }
 
-/// Whether the two rows of a list of tables are those of tables that are made so.
+/// Whether the first two rows of a list of tables are those of tables that are made so.
 fn are_made_so(page: &[u8], entries: &str, about: &str) -> bool {
-    is_made_so(page, 0, entries) && is_made_so(page, 1, about)
+    is_made_so(page, 108, entries) && is_made_so(page, 110, about)
+}
+
+/// Whether the three rows of a list of tables are those of a store.
+fn are_of_store(page: &[u8]) -> bool {
+    are_made_so(page, ENTRIES_SQL, ABOUT_SQL) && is_made_so(page, 112, CELLS_SQL)
 }
 
 /// Whether a text stands somewhere in a page.
@@ -100,13 +106,14 @@ fn first_of(page: &[u8]) -> First {
     if kind == 13 {
         let rows = pair_at(page, 103);
         return match rows {
-            2 if are_made_so(page, ENTRIES_SQL, ABOUT_SQL) => First::Store,
+            3 if are_of_store(page) => First::Store,
             2 if are_made_so(page, FORMER_ENTRIES_SQL, FORMER_ABOUT_SQL) => First::Former(1),
             2 if are_made_so(page, ENTRIES_SQL, FORMER_ABOUT_SQL) => First::Former(2),
+            2 if are_made_so(page, ENTRIES_SQL, ABOUT_SQL) => First::Former(3),
             _ => First::Other,
         };
     }
-    if kind != 5 && has_text(page, ENTRIES_SQL) && has_text(page, ABOUT_SQL) {
+    if kind != 5 && has_text(page, ENTRIES_SQL) && has_text(page, CELLS_SQL) {
         return First::Store;
     }
     if page.starts_with(b"SQLite format 3\0") && page.len() < pair_at(page, 16).max(512) {
@@ -216,6 +223,12 @@ pub(crate) fn has_tables(rt: &HostRuntime, path: &str) -> Result<bool, FileFault
     }
 }
 
+/// Whether the first page of a file is one of a store in format 3. None in its log is of another format, since no program adds a table to such a file.
+pub(crate) fn is_former(rt: &HostRuntime, path: &str) -> Result<bool, FileFault> {
+    let page = first_page(rt, path)?;
+    Ok(first_of(&page) == First::Former(former::FORMER_FORMAT))
+}
+
 /// What a failure of the system at a path means.
 fn failure_of(error: io::Error) -> FileFault {
     FileFault::Path(OpenError::Io(error))
@@ -246,14 +259,19 @@ fn expect_mode(page: &[u8]) -> Result<(), FileFault> {
 }
 
 /// Refuses a file that is no store, or one in a mode that isn't read here. It reads the first page, and those of a log where that isn't one of a
-/// store, and writes nothing. What is no plain file is left to the call that opens it.
-pub(crate) fn expect_store(rt: &HostRuntime, path: &str) -> Result<(), FileFault> {
+/// store, and writes nothing. What is no plain file is left to the call that opens it. A store in format 3 is refused too, unless it is taken.
+pub(crate) fn expect_store(
+    rt: &HostRuntime,
+    path: &str,
+    takes_former: bool,
+) -> Result<(), FileFault> {
     if !is_plain(rt, path)? {
         return Ok(());
     }
     let page = first_page(rt, path)?;
     let first = first_of(&page);
-    if first == First::Store {
+    let is_former = first == First::Former(former::FORMER_FORMAT);
+    if first == First::Store || takes_former && is_former {
         return expect_mode(&page);
     }
     if let Some(

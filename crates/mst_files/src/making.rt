@@ -16,7 +16,7 @@ use store_file::log::Log;
 use store_file::table::Entries;
 
 /// A random number.
-fn random(rt: &HostRuntime) -> Result<u64, FileFault> {
+pub(crate) fn random(rt: &HostRuntime) -> Result<u64, FileFault> {
     match RandomState::new(rt) {
         Ok(state) => Ok(state.hash_one(&0u8)),
         Err(_) => Err(FileFault::Command(Fault::System)),
@@ -51,11 +51,11 @@ fn key_of_store(
 
 /// What a new store has.
 #[derive(Clone, Copy)]
-struct Contents<'a> {
+pub(crate) struct Contents<'a> {
     /// The name by which it writes; if it is empty, the first write draws one.
-    writer: &'a str,
-    hash_key: &'a [u8; HASH_KEY_LEN],
-    entries: &'a Entries,
+    pub writer: &'a str,
+    pub hash_key: &'a [u8; HASH_KEY_LEN],
+    pub entries: &'a Entries,
 }
 
 /// Makes a store in tables without rows, and closes it.
@@ -75,7 +75,7 @@ where
 }
 
 /// Makes a store in a file without bytes.
-fn fill_file(rt: &HostRuntime, path: &str, new: &Contents<'_>) -> Result<(), FileFault> {
+pub(crate) fn fill_file(rt: &HostRuntime, path: &str, new: &Contents<'_>) -> Result<(), FileFault> {
     let files = files_at(rt, path)?;
     let log = Log::over(store_file::create(rt.alloc(), files)?);
     create_on(rt, log, new)
@@ -127,7 +127,7 @@ fn put_in_place(rt: &HostRuntime, made: &str, path: &str, log: &str) -> Result<(
 }
 
 /// Syncs the folder of a file.
-fn sync_folder(rt: &HostRuntime, path: &str) -> io::Result<()> {
+pub(crate) fn sync_folder(rt: &HostRuntime, path: &str) -> io::Result<()> {
     let mut folder = fs::canonicalize(rt, path)?;
     folder.pop();
     fs::open(rt, folder.as_str())?.sync_all()

@@ -3,7 +3,7 @@ ghost use Rattle.std.specs.Prelude.{IfOk, IsTrue};
 
 use crate::closing::{Closing, FileTrees};
 use crate::fault::FileFault;
-use crate::look::{expect_store, has_tables, log_of};
+use crate::look::{expect_store, has_tables, is_former, log_of};
 use mst_commands::Fault;
 use sqlite_disk::{Disk, Files};
 use sqlite_std_file::{File, OpenError, Unknown};
@@ -11,9 +11,10 @@ use sqlite_trees::store::Store;
 use std::fs;
 use std::thread::sleep;
 use std::time::Duration;
-use store_file::Unsure;
 use store_file::format::recognise;
+use store_file::former::{open_former, recognise_former};
 use store_file::log::Log;
+use store_file::{StoreFault, Unsure};
 
 /// Whether there is such a file.
 fn is_there(rt: &HostRuntime, path: &str) -> Result<bool, OpenError> {
@@ -96,19 +97,34 @@ pub fn expect_file(rt: &HostRuntime, path: &str) -> Result<(), FileFault> {
     }
 }
 
+/// Refuses a log that isn't one of a store, or of a store in format 3, by its note.
+fn expect_note<S: Store>(
+    rt: &HostRuntime,
+    log: &mut Log<S>,
+    is_former: bool,
+) -> Result<(), StoreFault> {
+    let _note = if is_former {
+        recognise_former(rt.alloc(), log)?
+    } else {
+        recognise(rt.alloc(), log)?
+    };
+    Ok(())
+}
+
 /// A log that is one of a store, by its note. Else it is closed, and if the file had no log before it has none again.
 fn noted<S: Store + Drop>(
     rt: &HostRuntime,
     log: Log<S>,
     name: &str,
     had_log: bool,
+    is_former: bool,
 ) -> Result<Log<S>, FileFault>
 where
     Log<S>: Closing,
 {
     let mut log = log;
-    match recognise(rt.alloc(), &mut log) {
-        Ok(_note) => Ok(log),
+    match expect_note(rt, &mut log, is_former) {
+        Ok(()) => Ok(log),
         Err(fault) => {
             if had_log {
                 let _ = log.close_all();
@@ -120,22 +136,56 @@ where
     }
 }
 
-/// Opens a file that is there. Where another process has it, it is tried again for this many seconds.
-pub fn open_file(rt: &HostRuntime, path: &str, seconds: u64) -> Result<Log<FileTrees>, FileFault> {
-    expect_file(rt, path)?;
-    expect_store(rt, path)?;
-    let name = log_of(rt, path)?;
-    let had_log = is_there(rt, name.as_str())?;
-    let files = wait_for(rt, path, seconds)?;
-    let opened = if has_tables(rt, path)? {
+/// The log of files that no other process has, at a path where a store is by its first page: in format 3 if that is said.
+fn log_at(
+    rt: &HostRuntime,
+    path: &str,
+    files: Files<Unsure<File>>,
+    is_former: bool,
+) -> Result<Log<FileTrees>, FileFault>
+    requires log { IsTrue (⟦<Unsure<File> as Disk>⟧.is_usable files.log) }
+    requires db { IsTrue (⟦<Unsure<File> as Disk>⟧.is_usable files.db) }
+{
+    let opened = if is_former {
+        open_former(rt.alloc(), files)
+    } else if has_tables(rt, path)? {
         store_file::open_trusted(rt.alloc(), files)
     } else {
         store_file::open(rt.alloc(), files)
     };
-    match opened {
-        Ok(trees) => noted(rt, Log::over(trees), name.as_str(), had_log),
-        Err(fault) => Err(FileFault::from(fault)),
-    }
+    Ok(Log::over(opened?))
+}
+
+/// Opens a file that is there, one of a store in format 3 too if that is taken.
+fn open_taken(
+    rt: &HostRuntime,
+    path: &str,
+    seconds: u64,
+    takes_former: bool,
+) -> Result<Log<FileTrees>, FileFault> {
+    expect_file(rt, path)?;
+    expect_store(rt, path, takes_former)?;
+    let name = log_of(rt, path)?;
+    let had_log = is_there(rt, name.as_str())?;
+    let files = wait_for(rt, path, seconds)?;
+    // (another process may have brought it into this format meanwhile)
+    let is_former = takes_former && is_former(rt, path)?;
+    let log = log_at(rt, path, files, is_former)?;
+    noted(rt, log, name.as_str(), had_log, is_former)
+}
+
+/// Opens a file that is there. Where another process has it, it is tried again for this many seconds.
+pub fn open_file(rt: &HostRuntime, path: &str, seconds: u64) -> Result<Log<FileTrees>, FileFault> {
+    open_taken(rt, path, seconds, false)
+}
+
+/// The same of a store in this format or in format 3, whose log can be read as that of another.
+pub(crate) fn open_either(
+    rt: &HostRuntime,
+    path: &str,
+    seconds: u64,
+) -> Result<Log<FileTrees>, FileFault> {
+    open_taken(rt, path, seconds, true)
 }
 
 /// The log of files whose pages all were read and found to be where they belong.
@@ -149,10 +199,10 @@ fn whole_log(rt: &HostRuntime, files: Files<Unsure<File>>) -> Result<Log<FileTre
 /// The same, once all its pages were read and found to be where they belong.
 pub fn open_whole(rt: &HostRuntime, path: &str, seconds: u64) -> Result<Log<FileTrees>, FileFault> {
     expect_file(rt, path)?;
-    expect_store(rt, path)?;
+    expect_store(rt, path, false)?;
     let name = log_of(rt, path)?;
     let had_log = is_there(rt, name.as_str())?;
     let files = wait_for(rt, path, seconds)?;
     let log = whole_log(rt, files)?;
-    noted(rt, log, name.as_str(), had_log)
+    noted(rt, log, name.as_str(), had_log, false)
 }

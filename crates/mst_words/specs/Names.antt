@@ -1,7 +1,7 @@
 -- What commands and settings are called.
 use Rattle.std.specs.Prelude.{◌≡◌, ◌≢◌, ℕ, List, Bool, true, false, codes, Option, MatchOption}
 use Rattle.mst_words.specs.declared.verb.Verb.{Verb}
-use Rattle.mst_words.specs.declared.verb.Verb.TheVariants.{Init, Put, Get, Del, List as ListOf, Count, Root, HashKey, Status, Import, Export, Compact, Shell, Serve, Pull, Diff, Backup, History, Check}
+use Rattle.mst_words.specs.declared.verb.Verb.TheVariants.{Init, Put, Get, Del, List as ListOf, Count, Root, HashKey, Status, Import, Export, Compact, Shell, Serve, Pull, Diff, Backup, History, Check, Rebuild}
 use Rattle.mst_words.specs.declared.verb.Setting.{Setting}
 use Rattle.mst_words.specs.declared.verb.Setting.TheVariants.{From, To, Prefix, Limit, Json, Log, Forget, Ahead, Wait, HashKey as ForHashKey, Absent, Old, Answers, MaxBytes, MaxEntries, Both}
 
@@ -26,6 +26,7 @@ verb_name Diff = codes "diff"
 verb_name Backup = codes "backup"
 verb_name History = codes "history"
 verb_name Check = codes "check"
+verb_name Rebuild = codes "rebuild"
 
 -- the name of a setting
 abbrev pub setting_name : Setting → List ℕ

@@ -3,7 +3,7 @@ use Rattle.std.specs.Prelude.{◌≡◌, option_map}
 use Rattle.std.specs.Option.{option_copied}
 use Rattle.mst_words.specs.Said.{Word, Said, wanted_of}
 use Rattle.mst_words.specs.declared.command.Command.{Command}
-use Rattle.mst_words.specs.declared.command.Command.TheVariants.{Init, Store, Shell, Serve, Pull, Diff, Backup}
+use Rattle.mst_words.specs.declared.command.Command.TheVariants.{Init, Store, Shell, Serve, Pull, Diff, Backup, Rebuild}
 use Rattle.mst_words.specs.declared.command.Limits.{Limits}
 use Rattle.mst_words.specs.declared.command.Selection.{Selection}
 use Rattle.mst_words.specs.declared.command.StoreCommand.TheVariants.{Table, Root, HashKey}
@@ -52,6 +52,7 @@ IsCommand (Serve limits both) name said = (name ≡ verb.Serve) × AreLimits lim
 IsCommand (Pull limits both) name said = (name ≡ verb.Pull) × AreLimits limits said × (both ≡ said.both)
 IsCommand (Diff limits json) name said = (name ≡ verb.Diff) × AreLimits limits said × (json ≡ said.json)
 IsCommand (Backup target) name said = (name ≡ verb.Backup) × (target.now ≡ said.target)
+IsCommand Rebuild name said = name ≡ verb.Rebuild
 
 -- a command on a file has this name and this file, and what it takes is what is said
 pub record IsTask (task : Task) (name : Verb) (at : Word) (said : Said) : Type 0 where

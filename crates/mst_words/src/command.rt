@@ -114,6 +114,7 @@ pub enum Command<'a> {
         /// The file that it makes.
         target: &'a str,
     },
+    Rebuild,
 }
 
 /// A command on a file.

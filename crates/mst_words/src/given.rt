@@ -115,6 +115,7 @@ fn command_of<'a>(verb: Verb, given: &Given<'a>) -> Command<'a>
         Verb::Backup => Command::Backup {
             target: given.target,
         },
+        Verb::Rebuild => Command::Rebuild,
     }
 }
 

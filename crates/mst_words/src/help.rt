@@ -115,6 +115,14 @@ Reads every page of the file and every row, and makes the tree. It prints what m
 mst export FILE --log.
 ";
 
+const REBUILD_HELP: &str = "\
+usage: mst rebuild FILE
+
+Writes the file anew: its rows, its writer's name and its hash key as they are, and the tree made from the rows. It brings a file
+of format 3 into format 4, and mends one whose tree doesn't fit the rows. The new file has another name until it is whole, and then
+takes the place of FILE: stopped in between, FILE is as it was.
+";
+
 const HISTORY_HELP: &str = "\
 usage: mst history FILE KEY [--json]
 
@@ -189,6 +197,7 @@ pub fn text_of(verb: Verb) -> &'static str {
         Verb::Backup => BACKUP_HELP,
         Verb::History => HISTORY_HELP,
         Verb::Check => CHECK_HELP,
+        Verb::Rebuild => REBUILD_HELP,
     }
 }
 
@@ -213,6 +222,7 @@ usage: mst COMMAND FILE [WORDS]
   export FILE            prints the keys and values as CSV
   compact FILE           leaves one row in the file for each key
   backup FILE TO         makes a copy with all rows, to be restored by cp
+  rebuild FILE           writes the file anew: one of format 3, or one whose tree is damaged
   shell FILE             reads commands from standard input, one a line
   serve FILE             answers a peer on standard input and standard output
   pull FILE              fetches what a peer on standard input and standard output has later

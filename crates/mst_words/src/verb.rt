@@ -28,6 +28,7 @@ pub enum Verb {
     Backup,
     History,
     Check,
+    Rebuild,
 }
 
 /// What a word is at its place.
@@ -71,7 +72,7 @@ pub struct Form {
     pub help: &'static str,
 }
 
-/// The command of this name. It compares the name with those of the nineteen commands, and takes no memory.
+/// The command of this name. It compares the name with those of the twenty commands, and takes no memory.
 pub fn verb_of(name: &str) -> Option<Verb>
     ensures { IsVerbOf name.now result }
 {
@@ -95,6 +96,7 @@ pub fn verb_of(name: &str) -> Option<Verb>
         "backup" => Some(Verb::Backup),
         "history" => Some(Verb::History),
         "check" => Some(Verb::Check),
+        "rebuild" => Some(Verb::Rebuild),
         _ => None,
     }
 }

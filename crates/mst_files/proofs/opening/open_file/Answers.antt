@@ -1,9 +1,0 @@
-use Rattle.std.proofs.Common.{refl}
-use Rattle.store_file.proofs.StoreLemmas.{never_clean}
-use Rattle.mst_files.proofs.opening.open_file.Goals as goal
-
-pub over-requires : goal.over-requires
-over-requires c = record {
-  tables = λ clean. absurd (never_clean c.in-Ok.trees (λ _. refl) clean);
-  rest = λ clean o. absurd (never_clean c.in-Ok.trees (λ _. refl) clean);
-}
