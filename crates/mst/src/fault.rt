@@ -7,6 +7,7 @@ use mst_files::fault::FileFault;
 use std::alloc::AllocError;
 use std::{fmt, io};
 use store_file::StoreFault;
+use store_tree::TreeFault;
 
 /// Why the program ends early.
 #[derive(Debug, Drop)]
@@ -23,6 +24,8 @@ pub enum Failure {
     TooMany,
     /// The file was replaced by another store while a peer was asked.
     Replaced,
+    /// The tree in the file isn't that of its rows.
+    Misfit,
     /// A peer didn't ask, though it had the turn.
     OneWay,
     /// Commands of a shell failed, each with its line on standard error.
@@ -44,6 +47,12 @@ impl From<Fault> for Failure {
 impl From<StoreFault> for Failure {
     fn from(fault: StoreFault) -> Self {
         Failure::from(Fault::Store(fault))
+    }
+}
+
+impl From<TreeFault> for Failure {
+    fn from(fault: TreeFault) -> Self {
+        Failure::from(StoreFault::from(fault))
     }
 }
 
@@ -81,6 +90,9 @@ impl fmt::Display for Failure {
             Failure::TooMany => f.write_str("the peer sent more bytes than --max-bytes allows"),
             Failure::Replaced => f.write_str(
                 "the file is another store than before the peer was asked: nothing was joined",
+            ),
+            Failure::Misfit => f.write_str(
+                "the tree in the file doesn't fit its rows: mst rebuild makes it anew",
             ),
             Failure::OneWay => f.write_str(
                 "the peer didn't fetch what this copy has: mst serve needs --both for that",

@@ -6,6 +6,7 @@
 mod fault;
 mod peers;
 mod sessions;
+mod shared;
 mod shell;
 mod status;
 mod tasks;
@@ -13,6 +14,7 @@ mod tasks;
 use fault::Failure;
 use mst_commands::escape::escape;
 use mst_files::making::{make_backup, make_store};
+use mst_files::rebuilding::rebuild;
 use mst_words::help::HELP;
 use mst_words::verb::{VERSION, form_of};
 use mst_words::{Asked, Command, Task, Wrong, read_words};
@@ -79,6 +81,7 @@ fn run_task(rt: &HostRuntime, task: &Task<'_>) -> ExitCode {
         Command::Pull { limits, both } => sessions::pull(rt, path, seconds, &limits, both),
         Command::Diff { limits, json } => sessions::look(rt, path, seconds, &limits, json),
         Command::Backup { target } => return back_up(rt, path, seconds, target),
+        Command::Rebuild => rebuild(rt, path, seconds).map_err(Failure::File),
     };
     match done {
         Ok(()) => ExitCode::SUCCESS,

@@ -1,11 +1,10 @@
-//! The commands that speak with a peer, over rows in memory: no file is open meanwhile.
+//! What is said to a peer, on standard input and output, and of it, on standard error. No file is open while a peer is waited for.
 use crate::fault::Failure;
+use crate::shared::{SharedSide, SharedTrees};
 use merkle_store::counting::Counting;
 use merkle_store::fetch_fault::{FetchFault, Untaken};
-use merkle_store::fetching::{Terms, fetch};
+use merkle_store::fetching::{Fetched, Terms, fetch};
 use merkle_store::framing::{MOST_BYTES, Unwatched, Watch, send};
-use merkle_store::news::news_of;
-use merkle_store::rows::EntryReplica;
 use merkle_store::serving::{Served, serve};
 use merkle_store::session_fault::SessionFault;
 use merkle_store::traffic::Traffic;
@@ -18,17 +17,6 @@ use std::alloc::{AllocError, Global};
 use std::env;
 use std::io::{IsTerminal, Read, Take, Write};
 use store_file::table::Entries;
-
-/// What a peer has that the rows lack.
-#[derive(Drop)]
-pub struct Pulled {
-    /// The entries of the peer that are later than what the rows have for their keys, ascending by key.
-    pub news: Entries,
-    /// How many entries of the peer came.
-    pub came: usize,
-    /// What went over the wire.
-    pub traffic: Traffic,
-}
 
 /// How many bytes come between two lines on standard error.
 const LINE_BYTES: usize = 16_777_216;
@@ -67,17 +55,15 @@ fn words_for(count: usize, one: &'static str, more: &'static str) -> &'static st
     if count == 1 { one } else { more }
 }
 
-/// Says on standard error what was fetched and joined.
-pub fn tell(rt: &HostRuntime, fetched: &Pulled) -> Result<(), Failure> {
+/// Says on standard error how many entries came, how many of them were joined, and what that took.
+pub fn tell(rt: &HostRuntime, came: usize, new: usize, traffic: &Traffic) -> Result<(), Failure> {
     eprintln!(rt;
-        "mst: pulled {} {}, {} of them new, in {} {}; {} bytes sent, {} received",
-        fetched.came,
-        words_for(fetched.came, "entry", "entries"),
-        fetched.news.len(),
-        fetched.traffic.messages,
-        words_for(fetched.traffic.messages, "round", "rounds"),
-        fetched.traffic.sent,
-        fetched.traffic.came
+        "mst: pulled {came} {}, {new} of them new, in {} {}; {} bytes sent, {} received",
+        words_for(came, "entry", "entries"),
+        traffic.messages,
+        words_for(traffic.messages, "round", "rounds"),
+        traffic.sent,
+        traffic.came
     )?;
     Ok(())
 }
@@ -124,15 +110,15 @@ pub fn bytes_read(limits: &Limits) -> u64 {
         .saturating_add(1)
 }
 
-/// Answers a peer until it is this side's turn to ask, or the peer's messages end.
-pub fn answer<R: Read>(
+/// Answers a peer until it is this side's turn to ask, or the peer's messages end. The file has to be closed, and is closed then.
+pub fn answer<S: SharedTrees, R: Read>(
     rt: &HostRuntime,
-    replica: &mut Counting<EntryReplica>,
+    side: &mut Counting<SharedSide<'_, S>>,
     from: &mut Take<R>,
 ) -> Result<Served, Failure> {
     let served = serve(
         rt.alloc(),
-        replica,
+        side,
         MOST_BYTES,
         from,
         &mut rt.stdout(),
@@ -144,7 +130,7 @@ pub fn answer<R: Read>(
     match served {
         Ok(served) => Ok(served),
         Err(SessionFault::Session(fault)) => Err(Failure::from(fault)),
-        Err(SessionFault::Side(error)) => Err(Failure::from(error)),
+        Err(SessionFault::Side(failure)) => Err(failure),
     }
 }
 
@@ -181,35 +167,38 @@ fn terms_of(rt: &HostRuntime, limits: &Limits) -> Result<Terms, Failure> {
     })
 }
 
-/// What a peer has that is later.
-pub fn ask<R: Read>(
+/// What a peer has that a side lacks.
+fn heard<S: SharedTrees, R: Read>(
     rt: &HostRuntime,
-    replica: &mut EntryReplica,
+    side: &mut SharedSide<'_, S>,
     limits: &Limits,
     from: &mut Take<R>,
-) -> Result<Pulled, Failure> {
+) -> Result<Fetched, Failure> {
     let terms = terms_of(rt, limits)?;
     let mut lines = lines_of(rt);
-    let fetched = fetch(
-        rt.alloc(),
-        replica,
-        &terms,
-        from,
-        &mut rt.stdout(),
-        &mut lines,
-    );
+    let fetched = fetch(rt.alloc(), side, &terms, from, &mut rt.stdout(), &mut lines);
     if from.limit() == 0 {
         return Err(Failure::TooMany);
     }
     match fetched {
-        Ok(fetched) => Ok(Pulled {
-            came: fetched.came.len(),
-            news: news_of(replica, fetched.came),
-            traffic: fetched.traffic,
-        }),
+        Ok(fetched) => Ok(fetched),
         Err(SessionFault::Session(fault)) => Err(failure_of(rt.alloc(), fault)),
-        Err(SessionFault::Side(error)) => Err(Failure::from(error)),
+        Err(SessionFault::Side(failure)) => Err(failure),
     }
+}
+
+/// What a peer has that a side lacks. Where that fails, the file is closed; else it may be open.
+pub fn ask<S: SharedTrees, R: Read>(
+    rt: &HostRuntime,
+    side: &mut SharedSide<'_, S>,
+    limits: &Limits,
+    from: &mut Take<R>,
+) -> Result<Fetched, Failure> {
+    let fetched = heard(rt, side, limits, from);
+    if fetched.is_err() {
+        let _ = side.close();
+    }
+    fetched
 }
 
 /// Gives the turn to ask to the peer, by a message of no bytes.

@@ -1,6 +1,6 @@
 //! Commands on one file, a line each.
 use crate::fault::Failure;
-use crate::tasks::{name_store, print_end, run_named};
+use crate::tasks::{name_store, print_end, run_told};
 use mst_commands::Input;
 use mst_commands::change::Change;
 use mst_commands::clock::now;
@@ -122,7 +122,7 @@ fn run_verb<S: Store>(
     if let Some(change) = change {
         return run_waiting(rt, log, change, at, command);
     }
-    match run_named(rt, log, note, command, Input::Nothing) {
+    match run_told(rt, log, note, command, Input::Nothing) {
         Ok(()) => {
             print_end(rt, command, None)?;
             Ok(true)
@@ -172,7 +172,13 @@ fn commit<S: Store>(
     if let Err(failure) = name_store(rt, log, note) {
         return at.refuse(rt, &failure);
     }
-    match change.land(rt.alloc(), log, note.writer.as_str(), now(rt)?) {
+    match change.land(
+        rt.alloc(),
+        log,
+        &note.hash_key,
+        note.writer.as_str(),
+        now(rt)?,
+    ) {
         Ok(true) => Ok(true),
         Ok(false) => at.refuse(rt, &"a line of the change failed: nothing of it is written"),
         Err(fault) => at.refuse(rt, &fault),

@@ -113,6 +113,7 @@ pub fn status_of(failure: &Failure) -> u8 {
     match failure {
         Failure::File(fault) => of_file(fault),
         Failure::Replaced => FOREIGN,
+        Failure::Misfit => DAMAGED,
         Failure::Fetch(fault) => of_fetch(fault),
         Failure::Ahead(_) => AHEAD,
         Failure::TooLong(_) | Failure::TooMany | Failure::OneWay => PEER,

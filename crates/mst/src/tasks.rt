@@ -5,11 +5,13 @@ ghost use Rattle.mst_commands.specs.Carries.{Carries};
 ghost use Rattle.mst_words.specs.declared.command.StoreCommand.TheVariants.{Table};
 ghost use Rattle.store_file.specs.Changes.{WritesByNow};
 ghost use Rattle.store_file.specs.Logs.{Finds, IsSteady, Leaves, Makes, OnlyReads};
+ghost use Rattle.store_rows.specs.InStep.{HashesInStep, StandsInStep};
 ghost use Rattle.mst.specs.Naming.{BeginsToCarry, CarriesBy, IsNewlyNamed, names_first, writes_by_name as is_by_name};
 
 use crate::fault::Failure;
-use merkle_digest::RootHash;
-use merkle_store::rows::read_replica;
+use merkle_digest::{PageDigest, RootHash, SipHasher};
+use merkle_search_tree::MerkleSearchTree;
+use merkle_search_tree::builder::{Builder, PageFormat};
 use mst_commands::input::read_input;
 use mst_commands::{Input, run};
 use mst_files::closing::{Closing, close_behind};
@@ -20,26 +22,61 @@ use mst_words::hash_key::number_of;
 use mst_words::{StoreCommand, TableCommand};
 use sqlite_std_file::OpenError;
 use sqlite_trees::store::Store as Trees;
+use std::alloc::{AllocError, Global};
 use std::fs;
+use store_file::Register;
 use store_file::format::{Note, recognise};
 use store_file::log::Log;
 use store_file::naming::name_writer;
 use store_file::table::{Entries, read_log};
+use store_rows::checking::fits;
+use store_rows::hashing::hash;
 
-/// The root hash of what the file holds.
-fn root_of<S: Trees>(rt: &HostRuntime, log: &mut Log<S>, note: &Note) -> Result<RootHash, Failure>
-    ensures reads { OnlyReads S.Store log.old log.new result }
-{
-    let mut replica = read_replica(rt.alloc(), log, &note.hash_key)?;
-    Ok(replica.root_hash().clone()?)
+/// The root hash of a tree whose root page has this digest, or of a tree without keys.
+fn root_hash_of(alloc: Global, digest: Option<PageDigest>) -> Result<RootHash, AllocError> {
+    if let Some(digest) = digest {
+        return Ok(RootHash::new(digest));
+    }
+    let mut tree: MerkleSearchTree<String, Register, SipHasher, 16> = Builder::default()
+        .with_page_format(PageFormat::V2)
+        .build(alloc);
+    tree.root_hash().clone()
 }
 
-/// Prints a root hash as a line of a status, or as a member of an object of JSON.
-fn print_root(rt: &HostRuntime, root: &RootHash, json: bool) -> Result<(), Failure> {
-    if json {
-        print!(rt; "\"root\":\"{root}\"")?;
-    } else {
-        println!(rt; "root {root}")?;
+/// The root hash of what the file holds, by the tree in the file. What wasn't known of the tree's pages is found out and kept.
+fn root_of<S: Trees>(rt: &HostRuntime, log: &mut Log<S>, note: &Note) -> Result<RootHash, Failure>
+    ensures hashed { Makes S.Store log.old log.new result (HashesInStep note.now.hash_key) }
+    ensures stands { StandsInStep S.Store note.now.hash_key log.old → StandsInStep S.Store note.now.hash_key log.new }
+{
+    let root = hash(rt.alloc(), log, &note.hash_key)?;
+    Ok(root_hash_of(rt.alloc(), root.digest)?)
+}
+
+/// The same, once the tree in the file was found to be that of the rows.
+fn checked_root<S: Trees>(
+    rt: &HostRuntime,
+    log: &mut Log<S>,
+    note: &Note,
+) -> Result<RootHash, Failure>
+    ensures stands { StandsInStep S.Store note.now.hash_key log.old → StandsInStep S.Store note.now.hash_key log.new }
+{
+    if !fits(rt.alloc(), log, &note.hash_key)? {
+        return Err(Failure::Misfit);
+    }
+    root_of(rt, log, note)
+}
+
+/// Prints a root hash: as a line of its own, as a line of a status, or as a member of an object of JSON.
+fn print_root(rt: &HostRuntime, root: &RootHash, command: StoreCommand<'_>) -> Result<(), Failure> {
+    match command {
+        StoreCommand::Table(TableCommand::Status { json } | TableCommand::Check { json }) => {
+            if json {
+                print!(rt; "\"root\":\"{root}\"")?;
+            } else {
+                println!(rt; "root {root}")?;
+            }
+        }
+        _ => println!(rt; "{root}")?,
     }
     Ok(())
 }
@@ -87,6 +124,8 @@ pub fn name_store<S: Trees>(
 ) -> Result<(), Failure>
     ensures kept { string_bytes note.old.writer ≢ [] → (log.new ≡ log.old) × (note.new ≡ note.old) }
     ensures named { string_bytes note.old.writer ≡ [] → Makes S.Store log.old log.new result (WritesByNow (string_bytes note.new.writer)) }
+    ensures hash_key { note.new.hash_key ≡ note.old.hash_key }
+    ensures stands { StandsInStep S.Store note.old.hash_key log.old → StandsInStep S.Store note.old.hash_key log.new }
     ensures steady { IsSteady S.Store log.old log.new }
     ensures crash { Leaves S.Store log.old log.new IsNewlyNamed }
 {
@@ -98,27 +137,26 @@ pub fn name_store<S: Trees>(
     Ok(())
 }
 
-/// Runs a command on the table of an open store. A status gets the root hash too.
-fn run_on_table<S: Trees>(
+/// The root hash, where a command tells it.
+fn root_for<S: Trees>(
     rt: &HostRuntime,
     log: &mut Log<S>,
     note: &Note,
-    command: TableCommand<'_>,
-    input: Input,
-) -> Result<(), Failure>
-    ensures carried { Makes S.Store log.old log.new result (Carries (Table command.entry) (string_bytes note.now.writer) input) }
-    ensures crash { Leaves S.Store log.old log.new (Carries (Table command.entry) (string_bytes note.now.writer) input) }
-    ensures steady { IsSteady S.Store log.old log.new }
+    command: StoreCommand<'_>,
+) -> Result<Option<RootHash>, Failure>
+    ensures stands { StandsInStep S.Store note.now.hash_key log.old → StandsInStep S.Store note.now.hash_key log.new }
 {
-    run::run(rt, log, note.writer.as_str(), command, input)?;
-    if let TableCommand::Status { json } | TableCommand::Check { json } = command {
-        print_root(rt, &root_of(rt, log, note)?, json)?;
+    match command {
+        StoreCommand::Root | StoreCommand::Table(TableCommand::Status { .. }) => {
+            Ok(Some(root_of(rt, log, note)?))
+        }
+        StoreCommand::Table(TableCommand::Check { .. }) => Ok(Some(checked_root(rt, log, note)?)),
+        _ => Ok(None),
     }
-    Ok(())
 }
 
-/// Runs a command on an open log of a store that notes this of itself, with what was read from standard input before. What ends a status isn't
-/// printed yet (`print_end`).
+/// Runs a command on an open log of a store that notes this of itself, with what was read from standard input before. The root hash (`print_root`)
+/// and what ends a status (`print_end`) aren't printed yet.
 fn run_open<S: Trees>(
     rt: &HostRuntime,
     log: &mut Log<S>,
@@ -128,18 +166,28 @@ fn run_open<S: Trees>(
 ) -> Result<(), Failure>
     ensures carried { Makes S.Store log.old log.new result (Carries command.entry (string_bytes note.now.writer) input) }
     ensures crash { Leaves S.Store log.old log.new (Carries command.entry (string_bytes note.now.writer) input) }
+    ensures stands { StandsInStep S.Store note.now.hash_key log.old → StandsInStep S.Store note.now.hash_key log.new }
     ensures steady { IsSteady S.Store log.old log.new }
 {
     match command {
-        StoreCommand::Table(command) => run_on_table(rt, log, note, command, input)?,
-        StoreCommand::Root => println!(rt; "{}", root_of(rt, log, note)?)?,
+        StoreCommand::Table(command) => {
+            run::run(
+                rt,
+                log,
+                &note.hash_key,
+                note.writer.as_str(),
+                command,
+                input,
+            )?;
+        }
+        StoreCommand::Root => {}
         StoreCommand::HashKey => println!(rt; "{:032x}", number_of(&note.hash_key))?,
     }
     Ok(())
 }
 
 /// Runs a command on an open log, by a name that is drawn first where the command writes and the store has none.
-pub fn run_named<S: Trees>(
+fn run_named<S: Trees>(
     rt: &HostRuntime,
     log: &mut Log<S>,
     note: &mut Note,
@@ -149,12 +197,33 @@ pub fn run_named<S: Trees>(
     ensures kept { names_first command.entry (string_bytes note.old.writer) ≡ false → note.new ≡ note.old }
     // It is carried out by the name that the note then has.
     ensures carried { Makes S.Store log.old log.new result (CarriesBy command.entry (string_bytes note.old.writer) input (string_bytes note.new.writer)) }
+    ensures stands { StandsInStep S.Store note.old.hash_key log.old → StandsInStep S.Store note.old.hash_key log.new }
     ensures crash { Leaves S.Store log.old log.new (BeginsToCarry command.entry (string_bytes note.old.writer) input) }
 {
     if writes_by_name(command) {
         name_store(rt, log, note)?;
     }
     run_open(rt, log, note, command, input)
+}
+
+/// The same, and prints the root hash behind what the command prints, where it tells that. Nothing is printed by a check that finds a tree
+/// which doesn't fit the rows; if rows are damaged, it names these.
+pub fn run_told<S: Trees>(
+    rt: &HostRuntime,
+    log: &mut Log<S>,
+    note: &mut Note,
+    command: StoreCommand<'_>,
+    input: Input,
+) -> Result<(), Failure> {
+    let root = root_for(rt, log, note, command);
+    if let Err(Failure::Misfit) = root {
+        return Err(Failure::Misfit);
+    }
+    run_named(rt, log, note, command, input)?;
+    if let Some(root) = root? {
+        print_root(rt, &root, command)?;
+    }
+    Ok(())
 }
 
 /// What a store notes of itself, and all its entries.
@@ -190,7 +259,7 @@ fn run_lent<S: Trees>(
     input: Input,
 ) -> Result<(), Failure> {
     let mut note = recognise(rt.alloc(), log)?;
-    run_named(rt, log, &mut note, command, input)
+    run_told(rt, log, &mut note, command, input)
 }
 
 /// The same of a log that is open, and closes its file.

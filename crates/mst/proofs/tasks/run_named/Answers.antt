@@ -1,5 +1,6 @@
-use Rattle.std.proofs.Common.{rules, refl, string_bytes}
+use Rattle.std.proofs.Common.{◌≡◌, ℕ, List, rules, refl, sym, subst, string_bytes}
 use Rattle.store_file.specs.Logs.{IsClean, IsSteady, Leaves, trees_of}
+use Rattle.store_rows.specs.InStep.{StandsInStep}
 use Rattle.mst.specs.Naming.{IsNamed, IsNewlyNamed, names_first}
 use Rattle.mst.proofs.Naming.{named, unnamed, carried, crashed}
 use Rattle.mst.proofs.tasks.run_named.Goals.{then-writes_by_name+in_ok-name_store, else-writes_by_name}
@@ -34,3 +35,20 @@ returns-clause-crash g c =
     let steady : IsSteady s c.args.log.now mid.log = search rules in
     let left : Leaves s c.args.log.now mid.log IsNewlyNamed = search rules in
     crashed s c.args.command c.args.input c.args.log.now mid.log c.run_open.new.log before name first steady left c.run_open.ensures.crash
+
+pub returns-clause-stands : goal.returns-clause-stands
+returns-clause-stands g c stood =
+    let s = g.S.Store in
+    let mid = c.if-writes_by_name in
+    let key = c.args.note.now.hash_key in
+    let same : mid.note.hash_key ≡ key =
+    elim mid.branch [
+      | then-writes_by_name+in_ok-name_store w ↦ rw w.note-is w.name_store.ensures.hash_key
+      | else-writes_by_name w ↦ rw w.note-is refl
+    ] in
+    let stands : StandsInStep s key mid.log =
+    elim mid.branch [
+      | then-writes_by_name+in_ok-name_store w ↦ rw w.log-is (w.name_store.ensures.stands stood)
+      | else-writes_by_name w ↦ rw w.log-is stood
+    ] in
+    subst (λ (k : List ℕ). StandsInStep s k c.run_open.new.log) same (c.run_open.ensures.stands (subst (λ (k : List ℕ). StandsInStep s k mid.log) (sym same) stands))
